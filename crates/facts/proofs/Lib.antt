@@ -1,0 +1,4 @@
+pub mod Sets
+pub mod Insert
+pub mod Bytes
+pub mod Count
