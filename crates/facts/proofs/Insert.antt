@@ -1,4 +1,4 @@
--- One fact more in a set.
+-- Lemmas on one member of a set.
 use Prim.Native.Nat.{ℕ, zero, suc, _+_, _*_, _/_, _%_, _^_, _<_, _≤_, max}
 use mathlib.Core.Path.{_≡_, refl, sym, ap, _∙_}
 use mathlib.Core.Logic.{⊎-elim, _≢_}
@@ -6,10 +6,11 @@ use mathlib.Core.Bool.{Bool, true, false, _||_}
 use mathlib.Core.List.{List}
 use native.Mathlib.Omega.{arith}
 use native.Mathlib.Nat.{zero-div, div-one}
-use lib.Bits.{bitOr}
+use lib.Bits.{bitAnd, bitOr, and-mask}
 use lib.Dec.{eqb}
 use lib.ListN.{length, getD, set}
 use lib.Seq.{getD-set-same, getD-set-other}
+use Rattle.std.proofs.shelf.Bits.{one-shl, mod-below}
 use Rattle.std.proofs.shelf.Tests.{cases-eq, eq-eqb, ne-eqb, or-left, or-right}
 use Rattle.facts.specs.Words.{bit, has, insert}
 use Rattle.facts.proofs.Sets.{bit-or, bit-is, low-or, half-bit, pow-two-suc}
@@ -38,6 +39,15 @@ same-place f g e =
     ⊎-elim (λ p. ap (λ (n : ℕ). eqb n (g % 64)) (ap (λ (n : ℕ). n % 64) p) ∙ eq-eqb (g % 64) (g % 64) refl ∙ sym (eq-eqb f g p))
     (λ p. ne-eqb (f % 64) (g % 64) (λ q. p (omega arith)) ∙ sym (ne-eqb f g p))
     (cases-eq f g)
+
+-- how the code sets and tests a bit
+pub bit-set : (ws : List ℕ) (n : ℕ) → set ws (n / 64) (bitOr (getD ws (n / 64) 0) ((1 * 2 ^ (n % 64)) % 2 ^ 64)) ≡ insert ws n
+unfolding insert
+bit-set ws n = rw (one-shl (n % 64) 64 (mod-below n 64 (omega arith)))
+
+pub bit-tested : (ws : List ℕ) (n : ℕ) → eqb (bitAnd (getD ws (n / 64) 0 / 2 ^ (n % 64)) 1) 1 ≡ has ws n
+unfolding has
+bit-tested ws n = rw (and-mask (getD ws (n / 64) 0 / 2 ^ (n % 64)) 1)
 
 pub has-insert : (ws : List ℕ) (f g : ℕ) → f / 64 < length ws → has (insert ws f) g ≡ (has ws g || eqb f g)
 unfolding has insert

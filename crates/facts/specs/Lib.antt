@@ -1,3 +1,4 @@
 pub mod Words
+pub mod Checks
 pub mod Field
 pub mod Laws
