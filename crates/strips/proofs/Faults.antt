@@ -39,13 +39,13 @@ pub actions-stop : (bs facts : List ℕ) (f : Fault) (n k : ℕ) → k < n → a
 actions-stop bs facts f zero k l p q = absurd (omega arith)
 actions-stop bs facts f (suc n) k l p q =
     ⊎-elim
-      (λ h. ap (λ (o : Option Fault). or-else o (action-fault bs facts (n + 1))) (actions-stop bs facts f n k h p q))
-      (λ h.
-        let e : k ≡ n = omega arith in
-        let a = ap (actions-fault bs facts) (sym e) ∙ p in
-        let b = ap (λ (i : ℕ). action-fault bs facts (i + 1)) (sym e) ∙ q in
-        ap (λ (o : Option Fault). or-else o (action-fault bs facts (n + 1))) a ∙ b)
-      (cases-lt k n)
+    (λ h. ap (λ (o : Option Fault). or-else o (action-fault bs facts (n + 1))) (actions-stop bs facts f n k h p q))
+    (λ h.
+    let e : k ≡ n = omega arith in
+    let a = ap (actions-fault bs facts) (sym e) ∙ p in
+    let b = ap (λ (i : ℕ). action-fault bs facts (i + 1)) (sym e) ∙ q in
+    ap (λ (o : Option Fault). or-else o (action-fault bs facts (n + 1))) a ∙ b)
+    (cases-lt k n)
 
 pub actions-none : (bs facts : List ℕ) (n : ℕ) → actions-fault bs facts n ≡ None → (k : ℕ) → k < n → action-fault bs facts (k + 1) ≡ None
 actions-none bs facts zero e k l = absurd (omega arith)
@@ -95,15 +95,15 @@ pub faultless-is-task : Faultless-is-task
 faultless-is-task bs e =
     let n = task-size bs e in
     let t = task-none bs e in
-    record
-      { some = n .0
-      ; whole = n .1
-      ; few = n .2
-      ; initial-in = t .0
-      ; goal-in = t .1
-      ; actions-in = λ k l. action-within bs (field bs 0 2) (k + 1) (actions-none bs (field bs 0 2) (action-count bs) (t .2) k l)
-      ; clash-free = λ k l. action-clash-free bs (field bs 0 2) (k + 1) (actions-none bs (field bs 0 2) (action-count bs) (t .2) k l)
-      }
+    record {
+      some = n .0;
+      whole = n .1;
+      few = n .2;
+      initial-in = t .0;
+      goal-in = t .1;
+      actions-in = λ k l. action-within bs (field bs 0 2) (k + 1) (actions-none bs (field bs 0 2) (action-count bs) (t .2) k l);
+      clash-free = λ k l. action-clash-free bs (field bs 0 2) (k + 1) (actions-none bs (field bs 0 2) (action-count bs) (t .2) k l);
+    }
 
 checks-pass : (bs : List ℕ) → 0 < length bs → length bs % 96 ≡ 0 → length bs / 96 ≤ 513 → subset (field bs 0 0) (field bs 0 2) ≡ true → subset (field bs 0 1) (field bs 0 2) ≡ true → actions-fault bs (field bs 0 2) (action-count bs) ≡ None → task-fault bs ≡ None
 unfolding task-fault
@@ -112,7 +112,7 @@ checks-pass bs a b c d e f = grind arith
 pub task-is-faultless : Task-is-faultless
 task-is-faultless bs t =
     checks-pass bs (t .some) (t .whole) (t .few) (t .initial-in) (t .goal-in)
-      (actions-all bs (field bs 0 2) (action-count bs) (λ k l. action-none bs (field bs 0 2) (k + 1) (t .actions-in k l) (t .clash-free k l)))
+    (actions-all bs (field bs 0 2) (action-count bs) (λ k l. action-none bs (field bs 0 2) (k + 1) (t .actions-in k l) (t .clash-free k l)))
 
 pub field-bits : Field-bits
 unfolding field
@@ -127,6 +127,6 @@ pub field-small : (bs : List ℕ) (i j : ℕ) → ((k : ℕ) → getD bs k 0 < 2
 unfolding field
 field-small bs i j small k =
     ⊎-elim
-      (λ l. all-getD (λ w. w < 2 ^ 64) (field bs i j) k 0 l (words-small set-words bs (record-bytes * i + field-bytes * j) small))
-      (λ l. let e = getD-past (field bs i j) k 0 l in omega arith)
-      (cases-lt k (length (field bs i j)))
+    (λ l. all-getD (λ w. w < 2 ^ 64) (field bs i j) k 0 l (words-small set-words bs (record-bytes * i + field-bytes * j) small))
+    (λ l. let e = getD-past (field bs i j) k 0 l in omega arith)
+    (cases-lt k (length (field bs i j)))

@@ -47,9 +47,9 @@ actions bs = map (λ k. action bs (k + 1)) (counting 0 (action-count bs))
 unfoldable pub action-fault : List ℕ → List ℕ → ℕ → Option Fault
 action-fault bs facts i =
     or-else (unless (subset (field bs i 0) facts) (fault ActionOutside i 0))
-      (or-else (unless (subset (field bs i 1) facts) (fault ActionOutside i 1))
-        (or-else (unless (subset (field bs i 2) facts) (fault ActionOutside i 2))
-          (unless (clash-free (action bs i)) (fault AddsAndDeletes i 3))))
+    (or-else (unless (subset (field bs i 1) facts) (fault ActionOutside i 1))
+    (or-else (unless (subset (field bs i 2) facts) (fault ActionOutside i 2))
+    (unless (clash-free (action bs i)) (fault AddsAndDeletes i 3))))
 
 -- the first fault of the n records that follow the first
 abbrev pub actions-fault : List ℕ → List ℕ → ℕ → Option Fault
@@ -60,7 +60,7 @@ actions-fault bs facts (suc n) = or-else (actions-fault bs facts n) (action-faul
 unfoldable pub task-fault : List ℕ → Option Fault
 task-fault bs =
     or-else (unless (not (eqb (length bs) 0) && eqb (length bs % record-bytes) 0) (fault Length 0 0))
-      (or-else (unless (leb (length bs / record-bytes) most-records) (fault TooManyRecords 0 0))
-        (or-else (unless (subset (field bs 0 0) (field bs 0 2)) (fault HeaderOutside 0 0))
-          (or-else (unless (subset (field bs 0 1) (field bs 0 2)) (fault HeaderOutside 0 1))
-            (actions-fault bs (field bs 0 2) (action-count bs)))))
+    (or-else (unless (leb (length bs / record-bytes) most-records) (fault TooManyRecords 0 0))
+    (or-else (unless (subset (field bs 0 0) (field bs 0 2)) (fault HeaderOutside 0 0))
+    (or-else (unless (subset (field bs 0 1) (field bs 0 2)) (fault HeaderOutside 0 1))
+    (actions-fault bs (field bs 0 2) (action-count bs)))))

@@ -10,5 +10,4 @@ pub fn tasks_are_lawful()
     ensures faultless_is_task { λ _. ⌜ Faultless-is-task ⌝ }
     ensures task_is_faultless { λ _. ⌜ Task-is-faultless ⌝ }
     ensures field_bits { λ _. ⌜ Field-bits ⌝ }
-{
-}
+{}

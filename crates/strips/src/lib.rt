@@ -5,6 +5,7 @@ pub mod laws;
 mod problem;
 mod reader;
 mod steps;
+
 pub use action::Action;
 pub use action::ActionDebug;
 pub use fault::Cause;

@@ -20,16 +20,27 @@ use facts::BYTES;
 use facts::FactSet;
 
 const RECORD: usize = 3 * BYTES;
+
 const MOST_RECORDS: usize = MOST_ACTIONS + 1;
 
 // Whether a set lies within the facts in use; else the fault at the place given.
-fn check_set(set: &FactSet, facts: &FactSet, cause: Cause, record: usize, field: u8) -> Result<(), Fault>
+fn check_set(
+    set: &FactSet,
+    facts: &FactSet,
+    cause: Cause,
+    record: usize,
+    field: u8,
+) -> Result<(), Fault>
     ensures { λ r. ⌜ fault-in r ≡ unless (subset (now (set .entry) .words) (now (facts .entry) .words)) (fault cause «record» field) ⌝ }
 {
     if set.is_subset(facts) {
         Ok(())
     } else {
-        Err(Fault { cause, record, field })
+        Err(Fault {
+            cause,
+            record,
+            field,
+        })
     }
 }
 

@@ -11,11 +11,22 @@ pub ghost-result : need.ghost-result
 unfolding none
 ghost-result c =
     let m = c .in-Continue-actions .ensures tt .made in
-    let e = c .empty-none .ensures .words in
-    ( ap length e
-    , ( (λ k. let z = ap (λ (ws : List ℕ). getD ws k 0) e ∙ none-word (0 ∷ 0 ∷ 0 ∷ 0 ∷ []) refl k in omega arith)
-      , ( subset-self _
-        , ( subset-self _
-          , ( (λ k l. absurd (omega (arith, ap length (m .0))))
-            , ( (λ k l. absurd (omega (arith, ap length (m .0))))
-              , (omega arith, (omega arith, tt))))))))
+    let e = c .empty-none .ensures .words in (
+      ap length e,
+      (
+        (λ k. let z = ap (λ (ws : List ℕ). getD ws k 0) e ∙ none-word (0 ∷ 0 ∷ 0 ∷ 0 ∷ []) refl k in omega arith),
+        (
+          subset-self _,
+          (
+            subset-self _,
+            (
+              (λ k l. absurd (omega (arith, ap length (m .0)))),
+              (
+                (λ k l. absurd (omega (arith, ap length (m .0)))),
+                (omega arith, (omega arith, tt)),
+              ),
+            ),
+          ),
+        ),
+      ),
+    )

@@ -1,0 +1,4 @@
+pub mod Files
+pub mod Follow
+pub mod Sizes
+pub mod Listed

@@ -1,0 +1,24 @@
+mod answer;
+mod reader;
+mod steps;
+mod writer;
+
+pub use answer::Flaw;
+pub use answer::FlawDebug;
+pub use answer::FlawEq;
+pub use answer::FlawPartialEq;
+pub use answer::Reading;
+pub use answer::ReadingDebug;
+pub use answer::ReadingEq;
+pub use answer::ReadingPartialEq;
+pub use answer::Refusal;
+pub use answer::RefusalDebug;
+pub use answer::RefusalEq;
+pub use answer::RefusalPartialEq;
+pub use answer::Unwritten;
+pub use answer::UnwrittenDebug;
+pub use answer::UnwrittenEq;
+pub use answer::UnwrittenPartialEq;
+pub use reader::action_number;
+pub use reader::read;
+pub use writer::write;
