@@ -21,4 +21,5 @@ pub use answer::UnwrittenEq;
 pub use answer::UnwrittenPartialEq;
 pub use reader::action_number;
 pub use reader::read;
+pub use reader::record_count;
 pub use writer::write;

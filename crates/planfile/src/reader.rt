@@ -26,11 +26,18 @@ pub(crate) const RECORD: usize = 2 + BYTES;
 
 pub(crate) const MOST_RECORDS: usize = 4095;
 
+// How many records bytes have.
+pub fn record_count(bytes: &[u8]) -> usize
+    ensures { λ r. ⌜ r ≡ record-count (now (bytes .entry)) ⌝ }
+{
+    bytes.len() / RECORD
+}
+
 // The action number of a record, where the bytes reach that far.
 pub fn action_number(bytes: &[u8], record: usize) -> Option<u16>
     ensures number { λ r. ⌜ Cases r (record-count (now (bytes .entry)) ≤ «record») (λ k. («record» < record-count (now (bytes .entry))) × (k ≡ action-at (now (bytes .entry)) «record»)) ⌝ }
 {
-    if record >= bytes.len() / RECORD {
+    if record >= record_count(bytes) {
         return None;
     }
     let at = RECORD * record;
@@ -71,7 +78,7 @@ fn follow(task: &Task, start: &FactSet, goal: &FactSet, bytes: &[u8]) -> Reading
     ensures { λ r. ⌜ Reads (vec-items (now (task .entry) .actions)) (now (start .entry) .words) (now (goal .entry) .words) (now (bytes .entry)) r ⌝ }
 {
     let mut state = *start;
-    let count = bytes.len() / RECORD;
+    let count = record_count(bytes);
     for record in 0..count {
         match follow_record(task, &state, bytes, record) {
             Ok(next) => state = next,
@@ -92,7 +99,7 @@ fn follow(task: &Task, start: &FactSet, goal: &FactSet, bytes: &[u8]) -> Reading
 fn check(task: &Task, start: &FactSet, goal: &FactSet, bytes: &[u8]) -> Result<(), Refusal>
     ensures { λ r. ⌜ fault-in r ≡ read-refusal (now (task .entry) .facts .words) (now (start .entry) .words) (now (goal .entry) .words) (now (bytes .entry)) ⌝ }
 {
-    if bytes.len() % RECORD != 0 || bytes.len() / RECORD > MOST_RECORDS {
+    if bytes.len() % RECORD != 0 || record_count(bytes) > MOST_RECORDS {
         return Err(Refusal::FileSize);
     }
     if !task.admits(start) || !task.admits(goal) {

@@ -24,4 +24,4 @@ returns-then-is-subset c =
 pub returns-else-is-subset : need.returns-else-is-subset
 returns-else-is-subset c =
     let e : c .loop-record .record ≡ length (c .args .bytes .now) / record-bytes = omega arith in
-    goals-false (rw e at (c .loop-record .inv)) (sym (c .if-is-subset .ensures tt .test))
+    rw (c .record-count-count .ensures) (goals-false (rw e at (c .loop-record .inv)) (sym (c .if-is-subset .ensures tt .test)))
