@@ -11,6 +11,10 @@ set-words = 4
 abbrev pub field-bytes : ℕ
 field-bytes = 32
 
+-- the words of a set of action numbers
+abbrev pub action-words : ℕ
+action-words = 8
+
 -- the number that n bytes from the place `at` on write, the lowest first
 abbrev pub number : ℕ → List ℕ → ℕ → ℕ
 number zero bs at = 0

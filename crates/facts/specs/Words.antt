@@ -1,6 +1,6 @@
 -- Sets of numbers as lists of 64-bit words, of any length: number n is bit n % 64 of word n / 64.
 use Prim.Native.Nat.{ℕ, zero, suc, _+_, _-_, _*_, _/_, _%_, _^_, max}
-use mathlib.Core.Bool.{Bool, true, false, _&&_, cond}
+use mathlib.Core.Bool.{Bool, true, false, not, _&&_, cond}
 use mathlib.Core.List.{List, [], _∷_, map}
 use lib.Bits.{bitAnd, bitOr, bitXor}
 use lib.Count.{ones}
@@ -46,6 +46,10 @@ subset xs ys = every (λ k. eqb (bitAnd (getD xs k 0) (getD ys k 0)) (getD xs k 
 -- whether no word has a bit
 unfoldable pub none : List ℕ → Bool
 none ws = every (λ k. eqb (getD ws k 0) 0) (length ws)
+
+-- whether two sets have a member in common
+abbrev pub meets : List ℕ → List ℕ → Bool
+meets xs ys = not (none (common xs ys))
 
 -- how many numbers are in the set
 unfoldable pub size : List ℕ → ℕ

@@ -1,8 +1,11 @@
-// Sets of facts, and the slices of words below them.
+// Sets of facts and sets of action numbers, over slices of words.
+mod actions;
 pub mod laws;
 mod set;
 mod words;
 
+pub use actions::ActionSet;
+pub use actions::ActionSetDebug;
 pub use set::BYTES;
 pub use set::FactSet;
 pub use set::FactSetDebug;
