@@ -9,6 +9,7 @@ use crate::words;
 
 // the words of a set of action numbers
 const ACTION_WORDS: usize = 8;
+
 const ACTION_LIMIT: u16 = 512;
 
 // A set of action numbers 0 to 511.
@@ -22,7 +23,9 @@ impl ActionSet {
         ensures words { λ r. ⌜ r .words ≡ replicate action-words 0 ⌝ }
         ensures members { λ r. ⌜ ((k : ℕ) → has (r .words) k ≡ false) ⌝ }
     {
-        ActionSet { words: [0; ACTION_WORDS] }
+        ActionSet {
+            words: [0; ACTION_WORDS],
+        }
     }
 
     pub fn contains(&self, action: u16) -> bool

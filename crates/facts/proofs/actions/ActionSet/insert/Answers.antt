@@ -15,7 +15,7 @@ returns-then-action-lt-ACTION-LIMIT c =
     let a : ℕ = c .args .action in
     let e = c .insert .ensures ∙ ap (insert ws) (c .from .ensures) in
     let t : ltb a 512 ≡ true = lt-ltb a 512 (omega arith) in
-    record
-      { words = e ∙ sym (ap (λ (b : Bool). cond b (insert ws a) ws) t)
-      ; members = λ k. ap (λ (xs : List ℕ). has xs k) e ∙ has-insert ws a k (omega arith) ∙ sym (ap (λ (b : Bool). has ws k || (b && eqb a k)) t)
-      }
+    record {
+      words = e ∙ sym (ap (λ (b : Bool). cond b (insert ws a) ws) t);
+      members = λ k. ap (λ (xs : List ℕ). has xs k) e ∙ has-insert ws a k (omega arith) ∙ sym (ap (λ (b : Bool). has ws k || (b && eqb a k)) t);
+    }

@@ -1,0 +1,4 @@
+pub mod Useful
+pub mod Laws
+pub mod Relaxation
+pub mod GoalCount
