@@ -274,7 +274,7 @@ low-within (suc zero) y p q h = let e = eqb-true y 1 (h refl) in omega arith
 low-within (suc (suc x)) y p q h = absurd (omega arith)
 
 -- fact j of word k
-has-at : (ws : List ℕ) (k j : ℕ) → j < 64 → has ws (k * 64 + j) ≡ eqb (bit (getD ws k 0) j) 1
+pub has-at : (ws : List ℕ) (k j : ℕ) → j < 64 → has ws (k * 64 + j) ≡ eqb (bit (getD ws k 0) j) 1
 unfolding has
 has-at ws k j l = rw (div-mul-add k 64 j l, mod-mul-add k 64 j l)
 
@@ -295,7 +295,7 @@ pub subset-from-has : (xs ys : List ℕ) → All (λ w. w < 2 ^ 64) xs → ((f :
 subset-from-has xs ys small h =
     subset-from xs ys (λ k l. word-from-has xs ys k (all-getD (λ w. w < 2 ^ 64) xs k 0 l small) h)
 
-low-same : (x y : ℕ) → x < 2 → y < 2 → eqb x 1 ≡ eqb y 1 → x ≡ y
+pub low-same : (x y : ℕ) → x < 2 → y < 2 → eqb x 1 ≡ eqb y 1 → x ≡ y
 low-same x y p q e = ⊎-elim (λ h. eqb-true x 1 h ∙ sym (eqb-true y 1 (sym e ∙ h))) (λ h. let nx = eqb-false x 1 h in let ny = eqb-false y 1 (sym e ∙ h) in omega arith) (cases-bool (eqb x 1))
 
 -- sets of as many words are equal if they have the same members
