@@ -76,7 +76,7 @@ same-word x y z l h =
     let p = and-le-l x y in
     let q = and-le-l x z in
     same-bits 64 (bitAnd x y) (bitAnd x z) (omega arith) (omega arith)
-      (λ j m. bit-and x y j ∙ ap (min (bit x j)) (h j m) ∙ sym (bit-and x z j))
+    (λ j m. bit-and x y j ∙ ap (min (bit x j)) (h j m) ∙ sym (bit-and x z j))
 
 pub meets-same : (xs ys zs : List ℕ) → ((k : ℕ) → getD xs k 0 < 2 ^ 64) → ((k : ℕ) → 4 ≤ k → getD xs k 0 ≡ 0) → ((f : ℕ) → f < 256 → has ys f ≡ has zs f) → meets xs ys ≡ meets xs zs
 meets-same xs ys zs small few h = ap not (both (none (common xs ys)) (none (common xs zs)) (none-same (common xs ys) (common xs zs) words) (none-same (common xs zs) (common xs ys) (λ k. sym (words k))))
@@ -85,14 +85,15 @@ meets-same xs ys zs small few h = ap not (both (none (common xs ys)) (none (comm
     both true b f g = sym (f refl)
     both false true f g = g refl
     both false false f g = refl
+
     words : (k : ℕ) → getD (common xs ys) k 0 ≡ getD (common xs zs) k 0
     words k =
         getD-common xs ys k
         ∙ ⊎-elim
-            (λ l. same-word (getD xs k 0) (getD ys k 0) (getD zs k 0) (small k)
-              (λ j m. low-same _ _ (bit-is (getD ys k 0) j) (bit-is (getD zs k 0) j) (sym (has-at ys k j m) ∙ h (k * 64 + j) (omega arith) ∙ has-at zs k j m)))
-            (λ l. ap (λ (x : ℕ). bitAnd x (getD ys k 0)) (few k l) ∙ and-zero-l (getD ys k 0) ∙ sym (and-zero-l (getD zs k 0)) ∙ sym (ap (λ (x : ℕ). bitAnd x (getD zs k 0)) (few k l)))
-            (cases-lt k 4)
+        (λ l. same-word (getD xs k 0) (getD ys k 0) (getD zs k 0) (small k)
+        (λ j m. low-same _ _ (bit-is (getD ys k 0) j) (bit-is (getD zs k 0) j) (sym (has-at ys k j m) ∙ h (k * 64 + j) (omega arith) ∙ has-at zs k j m)))
+        (λ l. ap (λ (x : ℕ). bitAnd x (getD ys k 0)) (few k l) ∙ and-zero-l (getD ys k 0) ∙ sym (and-zero-l (getD zs k 0)) ∙ sym (ap (λ (x : ℕ). bitAnd x (getD zs k 0)) (few k l)))
+        (cases-lt k 4)
         ∙ sym (getD-common xs zs k)
 
 -- so whether an action is useful depends on the facts that are wanted only
@@ -100,9 +101,9 @@ pub useful-same : (facts : State) (acts : List Action) (s w v : State) (k : ℕ)
 unfolding useful
 useful-same facts acts s w v k few small ok h =
     ⊎-elim
-      (λ l.
-        let into = adds-within facts (act acts k) (ok k l) in
-        ap (λ (b : Bool). ltb k (length acts) && (b && applicable (act acts k) s))
-          (meets-same (act acts k .add .words) w v (within-small facts (act acts k .add .words) small into) (within-few facts (act acts k .add .words) 4 few into) h))
-      (λ l. and-left (ltb k (length acts)) _ (le-ltb k (length acts) l) ∙ sym (and-left (ltb k (length acts)) _ (le-ltb k (length acts) l)))
-      (cases-lt k (length acts))
+    (λ l.
+    let into = adds-within facts (act acts k) (ok k l) in
+    ap (λ (b : Bool). ltb k (length acts) && (b && applicable (act acts k) s))
+    (meets-same (act acts k .add .words) w v (within-small facts (act acts k .add .words) small into) (within-few facts (act acts k .add .words) 4 few into) h))
+    (λ l. and-left (ltb k (length acts)) _ (le-ltb k (length acts) l) ∙ sym (and-left (ltb k (length acts)) _ (le-ltb k (length acts) l)))
+    (cases-lt k (length acts))

@@ -84,8 +84,8 @@ unfolding amount
 amount-none p zero e k l = absurd (omega arith)
 amount-none p (suc n) e k l =
     ⊎-elim (λ m. amount-none p n (omega arith) k m)
-           (λ m. let q : k ≡ n = omega arith in ap p q ∙ is-false (p n) (omega arith))
-           (cases-lt k n)
+    (λ m. let q : k ≡ n = omega arith in ap p q ∙ is-false (p n) (omega arith))
+    (cases-lt k n)
   where
     is-false : (b : Bool) → _≡_ {A = ℕ} (cond b 1 0) 0 → b ≡ false
     is-false true h = absurd (omega arith)
@@ -100,11 +100,11 @@ pub repeats : (acts : List Action) (s : State) (n : ℕ) → ((i : ℕ) × ((i <
 repeats acts s zero = let a = amount-le (lacking acts s 0) 256 in inr (omega arith)
 repeats acts s (suc n) =
     ⊎-elim
-      (λ x. inl (x .0, (let l = x .1 .0 in omega arith, x .1 .1)))
-      (λ h.
-        let t = fewer acts s n in
-        ⊎-elim (λ z. inl (n, (omega arith, z))) (λ z. inr (pos (amount (new-fact acts s n) 256) (amount (lacking acts s (suc n)) 256) (amount (lacking acts s n) 256) n z t h)) (cases-eq (amount (new-fact acts s n) 256) 0))
-      (repeats acts s n)
+    (λ x. inl (x .0, (let l = x .1 .0 in omega arith, x .1 .1)))
+    (λ h.
+    let t = fewer acts s n in
+    ⊎-elim (λ z. inl (n, (omega arith, z))) (λ z. inr (pos (amount (new-fact acts s n) 256) (amount (lacking acts s (suc n)) 256) (amount (lacking acts s n) 256) n z t h)) (cases-eq (amount (new-fact acts s n) 256) 0))
+    (repeats acts s n)
   where
     pos : (a b c n : ℕ) → (a ≡ 0 → ⊥) → a + b ≤ c → c + n ≤ 256 → b + suc n ≤ 256
     pos zero b c n z t h = absurd (z refl)

@@ -67,9 +67,9 @@ unfolding helpful
 helpful-some facts acts goal s top k r ns ns' set b z e l pos g h x w u =
     u
     ∙ useful-same facts acts s set (first-wanted acts goal s top) k (z .few) (z .small) (z .within)
-        (λ f q. w f q ∙ ap (λ (y : Bool). y && eqb (node ns' f .level) 1) (x .wanted s goal g h f q)
-          ∙ ap (λ (y : Bool). has (extracted acts s goal top .wanted) f && y) (level-one acts goal s top ns' (x .graph s g) pos f q)
-          ∙ sym (has-first acts goal s top f))
+    (λ f q. w f q ∙ ap (λ (y : Bool). y && eqb (node ns' f .level) 1) (x .wanted s goal g h f q)
+    ∙ ap (λ (y : Bool). has (extracted acts s goal top .wanted) f && y) (level-one acts goal s top ns' (x .graph s g) pos f q)
+    ∙ sym (has-first acts goal s top f))
     ∙ sym (ap (λ (y : Bool). y && useful acts s (first-wanted acts goal s top) k) (lt-ltb top 257 (omega arith)))
     ∙ sym (ap (λ (t : ℕ). ltb t 257 && useful acts s (first-wanted acts goal s t) k) e)
 
@@ -83,16 +83,16 @@ last-passes acts goal s top e l =
 none-one : (acts : List Action) (s : State) (ns : List FactNode) → Graph acts s 0 ns → (f : ℕ) → f < 256 → eqb (node ns f .level) 1 ≡ false
 none-one acts s ns g f q =
     ⊎-elim (λ y. let l = leb-true (node ns f .level) 0 y in ne-eqb (node ns f .level) 1 (λ e. omega arith))
-           (λ y. let l = g .far f q y in ne-eqb (node ns f .level) 1 (λ e. omega arith))
-           (cases-bool (leb (node ns f .level) 0))
+    (λ y. let l = g .far f q y in ne-eqb (node ns f .level) 1 (λ e. omega arith))
+    (cases-bool (leb (node ns f .level) 0))
 
 none-new : (acts : List Action) (goal s : State) (f : ℕ) → subset goal (layer acts s 0) ≡ true → (has (extracted acts s goal 0 .wanted) f && new-fact acts s 0 f) ≡ false
 unfolding treated
 none-new acts goal s f t =
     ⊎-elim
-      (λ y. and-right (has goal f) (new-fact acts s 0 f) (and-right (has (layer acts s 1) f) (not (has (layer acts s 0) f)) (ap not (subset-has goal (layer acts s 0) t f y))))
-      (λ y. and-left (has goal f) (new-fact acts s 0 f) y)
-      (cases-bool (has goal f))
+    (λ y. and-right (has goal f) (new-fact acts s 0 f) (and-right (has (layer acts s 1) f) (not (has (layer acts s 0) f)) (ap not (subset-has goal (layer acts s 0) t f y))))
+    (λ y. and-left (has goal f) (new-fact acts s 0 f) y)
+    (cases-bool (has goal f))
 
 pub helpful-all : (facts : State) (acts : List Action) (goal s : State) (top k r : ℕ) (ns ns' : List FactNode) (set : State) (b : Bool) → Sized facts acts → last acts goal s ≡ top → top ≤ 256 → Graph acts s top ns → Fresh goal ns → Extracts acts top top ns ns' r → ((f : ℕ) → f < 256 → has set f ≡ wanted-first (node ns' f)) → b ≡ useful acts s set k → b ≡ helpful acts goal s k
 unfolding helpful
@@ -101,15 +101,16 @@ helpful-all facts acts goal s zero k r ns ns' set b z e l g h x w u =
     let t = last-passes acts goal s 0 e (omega arith) in
     u
     ∙ useful-same facts acts s set (first-wanted acts goal s 0) k (z .few) (z .small) (z .within)
-        (λ f q. w f q ∙ and-right (node ns' f .wanted) (eqb (node ns' f .level) 1) (none-one acts s ns' (x .graph s g) f q) ∙ sym (has-first acts goal s 0 f ∙ none-new acts goal s f t))
+    (λ f q. w f q ∙ and-right (node ns' f .wanted) (eqb (node ns' f .level) 1) (none-one acts s ns' (x .graph s g) f q) ∙ sym (has-first acts goal s 0 f ∙ none-new acts goal s f t))
     ∙ sym (ap (λ (t : ℕ). ltb t 257 && useful acts s (first-wanted acts goal s t) k) e)
 
 -- the set of facts wanted at level 1
 noted-as : (ws : State) (p : ℕ → Bool) (f : ℕ) (b : Bool) → f < 256 → length ws ≡ 4 → ((k : ℕ) → has ws k ≡ (ltb k f && p k)) → b ≡ p f → (length (cond b (insert ws f) ws) ≡ 4) × ((k : ℕ) → has (cond b (insert ws f) ws) k ≡ (ltb k (f + 1) && p k))
 unfolding insert
-noted-as ws p f true l e inv h =
-    ( length-set ws (f / 64) _ ∙ e
-    , considered-more p ws (insert ws f) f inv (λ j. has-insert ws f j (omega arith) ∙ ap (λ (b : Bool). has ws j || (b && eqb f j)) h) )
+noted-as ws p f true l e inv h = (
+  length-set ws (f / 64) _ ∙ e,
+  considered-more p ws (insert ws f) f inv (λ j. has-insert ws f j (omega arith) ∙ ap (λ (b : Bool). has ws j || (b && eqb f j)) h),
+)
 noted-as ws p f false l e inv h = (e, considered-more p ws ws f inv (considered-false p f ws h))
 
 pub noted : (ws ws' : State) (p : ℕ → Bool) (f g : ℕ) → f < 256 → g ≡ f → length ws ≡ 4 → ((k : ℕ) → has ws k ≡ (ltb k f && p k)) → ws' ≡ cond (p f) (insert ws g) ws → (length ws' ≡ 4) × ((k : ℕ) → has ws' k ≡ (ltb k (f + 1) && p k))

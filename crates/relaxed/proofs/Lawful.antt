@@ -71,26 +71,25 @@ unfolding last
 last-before acts goal s j l = first-before (λ i. subset goal (layer acts s i)) 257 j l
 
 -- never: no plan
-sound-pre : (facts : State) (a : Action) → sound facts a ≡ true → subset (a .pre .words) facts ≡ true
-unfolding sound
-sound-pre facts a e = and-parts _ _ e .0
+pre-within : (facts : State) (a : Action) → within facts a ≡ true → subset (a .pre .words) facts ≡ true
+unfolding within
+pre-within facts a e = and-parts _ _ e .0
 
 stays : (facts : State) (acts : List Action) (goal s u t : State) (i : ℕ) (ks : List ℕ) → Asked facts acts goal s → ((f : ℕ) → f < 256 → new-fact acts s i f ≡ false) → subset u facts ≡ true → ((f : ℕ) → f < 256 → has u f ≡ true → has (layer acts s i) f ≡ true) → Run acts u ks t → (f : ℕ) → f < 256 → has t f ≡ true → has (layer acts s i) f ≡ true
-stays facts acts goal s u t i ks q none within h (stop _) = h
-stays facts acts goal s u t i ks q none within h (step _ _ k ls a lk ea p r) =
-    let ok : sound facts a ≡ true = ap (sound facts) ea ∙ q .sound k a lk in
-    let can : subset (a .pre .words) (layer acts s i) ≡ true = subset-below facts (a .pre .words) (layer acts s i) (q .few) (q .small) (sound-pre facts a ok) (λ f l y. h f l (subset-has (a .pre .words) u p f y)) in
-    let here : applicable (act acts k) (layer acts s i) ≡ true = ap (λ (x : Action). applicable x (layer acts s i)) (sym (act-is acts k a lk ea)) ∙ can in
-    stays facts acts goal s (result a u) t i ls q none (result-within facts a u ok within)
-      (λ f l y.
-        ⊎-elim
-          (λ z. h f l (and-parts _ _ (sym (has-without u (a .del .words) f) ∙ z) .0))
-          (λ z.
-            let add : has (act acts k .add .words) f ≡ true = ap (λ (x : Action). has (x .add .words) f) (sym (act-is acts k a lk ea)) ∙ z in
-            let next : has (layer acts s (suc i)) f ≡ true = ap (λ (x : State). has x f) (layer-suc acts s i) ∙ grown-has acts (layer acts s i) (length acts) k f lk here add in
-            ⊎-elim (λ v. v) (λ v. absurd (both-ways (new-fact acts s i f) (none f l) (and-from _ _ next (not-from-false _ v)))) (cases-bool (has (layer acts s i) f)))
-          (or-cases _ _ (sym (has-union (without u (a .del .words)) (a .add .words) f) ∙ y)))
-      r
+stays facts acts goal s u t i ks q none inside h stop = h
+stays facts acts goal s u t i ks q none inside h (step {k = k} {ks = ls} lk p r) =
+    let a : Action = act acts k in
+    let ok : within facts a ≡ true = q .within k lk in
+    let here : applicable a (layer acts s i) ≡ true = subset-below facts (a .pre .words) (layer acts s i) (q .few) (q .small) (pre-within facts a ok) (λ f l y. h f l (subset-has (a .pre .words) u p f y)) in
+    stays facts acts goal s (result a u) t i ls q none (result-within facts a u ok inside)
+    (λ f l y.
+    ⊎-elim
+    (λ z. h f l (and-parts _ _ (sym (has-without u (a .del .words) f) ∙ z) .0))
+    (λ z.
+    let next : has (layer acts s (suc i)) f ≡ true = ap (λ (x : State). has x f) (layer-suc acts s i) ∙ grown-has acts (layer acts s i) (length acts) k f lk here z in
+    ⊎-elim (λ v. v) (λ v. absurd (both-ways (new-fact acts s i f) (none f l) (and-from _ _ next (not-from-false _ v)))) (cases-bool (has (layer acts s i) f)))
+    (or-cases _ _ (sym (has-union (without u (a .del .words)) (a .add .words) f) ∙ y)))
+    r
 
 layer-grows : (acts : List Action) (s : State) (i f : ℕ) → has s f ≡ true → has (layer acts s i) f ≡ true
 layer-grows acts s zero f h = ap (λ (x : State). has x f) (sym (layer-none acts s)) ∙ h
@@ -99,16 +98,16 @@ layer-grows acts s (suc i) f h = grows acts s i f (layer-grows acts s i f h)
 no-plan : (facts : State) (acts : List Action) (goal s : State) → Asked facts acts goal s → relaxed-plan acts goal s ≡ Never → (ks : List ℕ) → IsPlan acts s goal ks → ⊥
 no-plan facts acts goal s q e ks plan =
     ⊎-elim
-      (λ x.
-        let i : ℕ = x .0 in
-        let l = x .1 .0 in
-        let far = never-is acts goal s e in
-        let none = amount-none (new-fact acts s i) 256 (x .1 .1) in
-        let in-layer = stays facts acts goal s s (plan .0) i ks q none (q .state-in) (λ f m y. layer-grows acts s i f y) (plan .1) in
-        let all = subset-below facts goal (layer acts s i) (q .few) (q .small) (q .goal-in) (λ f m y. in-layer f m (subset-has goal (plan .0) (plan .2) f y)) in
-        both-ways (subset goal (layer acts s i)) (last-before acts goal s i (omega arith)) all)
-      (λ h. too-many (amount (lacking acts s 257) 256) h)
-      (repeats acts s 257)
+    (λ x.
+    let i : ℕ = x .0 in
+    let l = x .1 .0 in
+    let far = never-is acts goal s e in
+    let none = amount-none (new-fact acts s i) 256 (x .1 .1) in
+    let in-layer = stays facts acts goal s s (plan .0) i ks q none (q .state-in) (λ f m y. layer-grows acts s i f y) (plan .1) in
+    let all = subset-below facts goal (layer acts s i) (q .few) (q .small) (q .goal-in) (λ f m y. in-layer f m (subset-has goal (plan .0) (plan .2) f y)) in
+    both-ways (subset goal (layer acts s i)) (last-before acts goal s i (omega arith)) all)
+    (λ h. too-many (amount (lacking acts s 257) 256) h)
+    (repeats acts s 257)
   where
     too-many : (a : ℕ) → a + 257 ≤ 256 → ⊥
     too-many a h = omega arith
@@ -143,9 +142,10 @@ pass-idle acts s i (suc n) m e =
     let h = pass-grows acts s i n m in
     let v = visit-grows (tests acts s i n p) a p in
     let ih = pass-idle acts s i n m (omega arith) in
-    let t : tests acts s i n p ≡ false = visit-idle (tests acts s i n p) a p (omega arith) in
-    ( ap (λ (b : Bool). cond b (chosen a p) p) t ∙ ih .0
-    , λ f l. ⊎-elim (λ k. ih .1 f k) (λ k. let q : f ≡ n = omega arith in ap (λ (x : ℕ). tests acts s i x m) q ∙ ap (tests acts s i n) (sym (ih .0)) ∙ t) (cases-lt f n) )
+    let t : tests acts s i n p ≡ false = visit-idle (tests acts s i n p) a p (omega arith) in (
+      ap (λ (b : Bool). cond b (chosen a p) p) t ∙ ih .0,
+      λ f l. ⊎-elim (λ k. ih .1 f k) (λ k. let q : f ≡ n = omega arith in ap (λ (x : ℕ). tests acts s i x m) q ∙ ap (tests acts s i n) (sym (ih .0)) ∙ t) (cases-lt f n),
+    )
 
 treated-grows : (acts : List Action) (s goal : State) (top n : ℕ) → treated acts s goal top 1 .count ≤ treated acts s goal top (suc n) .count
 unfolding treated
@@ -163,8 +163,8 @@ some-wanted acts s goal t e f l y z =
     let e' : pass acts s t 256 m .count ≡ 0 = ap (λ (x : ℕ). pass acts s x 256 m .count) (sym d) ∙ e in
     let no = pass-idle acts s t 256 m e' .1 f l in
     ⊎-elim (λ v. v)
-      (λ v. absurd (both-ways (tests acts s t f m) no (and-from _ _ y (and-from _ _ (and-from _ _ z (not-from-false _ v)) (not-from-false _ (has-past [] f (omega arith)))))))
-      (cases-bool (has (layer acts s t) f))
+    (λ v. absurd (both-ways (tests acts s t f m) no (and-from _ _ y (and-from _ _ (and-from _ _ z (not-from-false _ v)) (not-from-false _ (has-past [] f (omega arith)))))))
+    (cases-bool (has (layer acts s t) f))
 
 zero-top : (facts : State) (acts : List Action) (goal s : State) (top : ℕ) → Asked facts acts goal s → last acts goal s ≡ top → top < 257 → extracted acts s goal top .count ≡ 0 → subset goal s ≡ true
 zero-top facts acts goal s zero q e l c = ap (subset goal) (layer-none acts s) ∙ last-passes acts goal s 0 e l
@@ -185,5 +185,5 @@ relaxed-laws = record {
   zero = λ facts acts goal s q e. let r = steps-are acts goal s 0 e in zero-top facts acts goal s (last acts goal s) q refl (r .0) (r .1);
   never = no-plan;
   most = λ facts acts goal s n q e. let r = steps-are acts goal s n e in let b = r .1 in let few = few-actions acts s goal (last acts goal s) in omega arith;
-  can = λ facts acts goal s k q e. let p = and-parts _ _ (and-parts _ _ e .1) in (ltb-true k (length acts) (p .0), and-parts _ _ (p .1) .0);
+  can = λ facts acts goal s k q e. let p = and-parts _ _ (and-parts _ _ e .1) in (ltb-true k (length acts) (p .0), and-parts _ _ (p .1) .1);
 }

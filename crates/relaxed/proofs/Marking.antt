@@ -28,10 +28,10 @@ above i x = ⊎-elim (λ l. lt-ltb i x l ∙ ap not (sym (lt-leb x i l))) (λ l.
 pub level-is : (x i : ℕ) → eqb x (i + 1) ≡ (leb x (suc i) && not (leb x i))
 level-is x i =
     ⊎-elim (λ e. eq-eqb x (i + 1) e ∙ sym (both true false (le-leb x (suc i) (omega arith)) (lt-leb x i (omega arith))))
-      (⊎-elim
-        (λ l. ne-eqb x (i + 1) (λ e. omega arith) ∙ sym (both true true (le-leb x (suc i) (omega arith)) (le-leb x i (omega arith))))
-        (λ l. ne-eqb x (i + 1) (λ e. omega arith) ∙ sym (both false false (lt-leb x (suc i) (omega arith)) (lt-leb x i (omega arith)))))
-      (cases-order x (i + 1))
+    (⊎-elim
+    (λ l. ne-eqb x (i + 1) (λ e. omega arith) ∙ sym (both true true (le-leb x (suc i) (omega arith)) (le-leb x i (omega arith))))
+    (λ l. ne-eqb x (i + 1) (λ e. omega arith) ∙ sym (both false false (lt-leb x (suc i) (omega arith)) (lt-leb x i (omega arith)))))
+    (cases-order x (i + 1))
   where
     both : (b d : Bool) → leb x (suc i) ≡ b → leb x i ≡ d → (leb x (suc i) && not (leb x i)) ≡ (b && not d)
     both b d p q = ap (λ (y : Bool). y && not (leb x i)) p ∙ ap (λ (y : Bool). b && not y) q
@@ -39,7 +39,7 @@ level-is x i =
 pub due-same : (acts : List Action) (s : State) (top i f : ℕ) (m : Marks) (ns : List FactNode) → Graph acts s top ns → i < top → Shows i m ns → f < 256 → due i (node ns f) ≡ (has (m .wanted) f && (new-fact acts s i f && not (has (m .here) f)))
 due-same acts s top i f m ns g l w q =
     let a : eqb (node ns f .level) (i + 1) ≡ new-fact acts s i f =
-          level-is (node ns f .level) i ∙ ap (λ (y : Bool). y && not (leb (node ns f .level) i)) (g .level f (suc i) q (omega arith)) ∙ ap (λ (y : Bool). has (layer acts s (suc i)) f && not y) (g .level f i q (omega arith)) in
+    level-is (node ns f .level) i ∙ ap (λ (y : Bool). y && not (leb (node ns f .level) i)) (g .level f (suc i) q (omega arith)) ∙ ap (λ (y : Bool). has (layer acts s (suc i)) f && not y) (g .level f i q (omega arith)) in
     let b : ltb (i + 1) (node ns f .marked) ≡ not (has (m .here) f) = above (i + 1) (node ns f .marked) ∙ ap not (w .here f q) in
     ap (λ (y : Bool). y && (eqb (node ns f .level) (i + 1) && ltb (i + 1) (node ns f .marked))) (w .wanted f q)
     ∙ ap (λ (y : Bool). has (m .wanted) f && (y && ltb (i + 1) (node ns f .marked))) a
@@ -72,21 +72,21 @@ low-still false i x l = l
 shows-selected : (i : ℕ) (a : Action) (m : Marks) (ns ns' : List FactNode) → Each (selected a i) ns ns' → Shows i m ns → Shows i (chosen a m) ns'
 shows-selected i a m ns ns' e w = record {
   wanted = λ f q.
-    ap (λ (n : FactNode). n .wanted) (e .at f q)
-    ∙ ap (λ (y : Bool). y || (has (a .pre .words) f && ltb i (node ns f .marked))) (w .wanted f q)
-    ∙ ap (λ (y : Bool). has (m .wanted) f || (has (a .pre .words) f && y)) (above i (node ns f .marked) ∙ ap not (w .below f q))
-    ∙ ap (λ (y : Bool). has (m .wanted) f || y) (sym (has-without (a .pre .words) (m .below) f))
-    ∙ sym (has-union (m .wanted) (without (a .pre .words) (m .below)) f);
+      ap (λ (n : FactNode). n .wanted) (e .at f q)
+      ∙ ap (λ (y : Bool). y || (has (a .pre .words) f && ltb i (node ns f .marked))) (w .wanted f q)
+      ∙ ap (λ (y : Bool). has (m .wanted) f || (has (a .pre .words) f && y)) (above i (node ns f .marked) ∙ ap not (w .below f q))
+      ∙ ap (λ (y : Bool). has (m .wanted) f || y) (sym (has-without (a .pre .words) (m .below) f))
+      ∙ sym (has-union (m .wanted) (without (a .pre .words) (m .below)) f);
   here = λ f q.
-    ap (λ (n : FactNode). leb (n .marked) (i + 1)) (e .at f q)
-    ∙ either (has (a .add .words) f) i (node ns f .marked) (i + 1) (omega arith)
-    ∙ ap (λ (y : Bool). y || has (a .add .words) f) (w .here f q)
-    ∙ sym (has-union (m .here) (a .add .words) f);
+      ap (λ (n : FactNode). leb (n .marked) (i + 1)) (e .at f q)
+      ∙ either (has (a .add .words) f) i (node ns f .marked) (i + 1) (omega arith)
+      ∙ ap (λ (y : Bool). y || has (a .add .words) f) (w .here f q)
+      ∙ sym (has-union (m .here) (a .add .words) f);
   below = λ f q.
-    ap (λ (n : FactNode). leb (n .marked) i) (e .at f q)
-    ∙ either (has (a .add .words) f) i (node ns f .marked) i (omega arith)
-    ∙ ap (λ (y : Bool). y || has (a .add .words) f) (w .below f q)
-    ∙ sym (has-union (m .below) (a .add .words) f);
+      ap (λ (n : FactNode). leb (n .marked) i) (e .at f q)
+      ∙ either (has (a .add .words) f) i (node ns f .marked) i (omega arith)
+      ∙ ap (λ (y : Bool). y || has (a .add .words) f) (w .below f q)
+      ∙ sym (has-union (m .below) (a .add .words) f);
   low = λ f q. subst (λ (n : FactNode). i ≤ n .marked) (sym (e .at f q)) (low-still (has (a .add .words) f) i (node ns f .marked) (w .low f q));
 }
 
@@ -147,9 +147,9 @@ pass-more acts i n r r' ns ns' ns'' a b = record {
   graph = λ s top g. b .graph s top (a .graph s top g);
   shows = λ s top m g l w. subst (λ (x : ℕ). Shows i (pass acts s i x m) ns'') (sym (add-one n)) (b .shows s top (pass acts s i n m) (a .graph s top g) l (a .shows s top m g l w));
   count = λ s top m g l w.
-    ap (λ (x : ℕ). pass acts s i x m .count) (add-one n)
-    ∙ b .count s top (pass acts s i n m) (a .graph s top g) l (a .shows s top m g l w)
-    ∙ ap (λ (x : ℕ). x + r') (a .count s top m g l w) ∙ add-assoc (m .count) r r';
+      ap (λ (x : ℕ). pass acts s i x m .count) (add-one n)
+      ∙ b .count s top (pass acts s i n m) (a .graph s top g) l (a .shows s top m g l w)
+      ∙ ap (λ (x : ℕ). x + r') (a .count s top m g l w) ∙ add-assoc (m .count) r r';
 }
 
 pub pass-all : (acts : List Action) (i n r : ℕ) (ns ns' : List FactNode) → n ≡ 256 → Treats acts i (λ s m. pass acts s i n m) ns ns' r → Treats acts i (λ s m. pass acts s i 256 m) ns ns' r
@@ -180,20 +180,20 @@ descend-none acts top ns l = record {
 pub descend-more : (acts : List Action) (top n r r' : ℕ) (ns ns' ns'' : List FactNode) → n < top → Descends acts top n ns ns' r → Treats acts (top - (n + 1)) (λ s m. pass acts s (top - (n + 1)) 256 m) ns' ns'' r' → Descends acts top (n + 1) ns ns'' (r + r')
 unfolding treated
 descend-more acts top n r r' ns ns' ns'' l a b =
-  let e : n + 1 ≡ suc n = add-one n in
-  let d : top - n ≡ (top - (n + 1)) + 1 = omega arith in
-  let low : (s goal : State) → Graph acts s top ns → Fresh goal ns → Shows (top - (n + 1)) (lower (treated acts s goal top n)) ns' =
-        λ s goal g h. lower-shows (top - (n + 1)) (treated acts s goal top n) ns' (subst (λ (x : ℕ). Shows x (treated acts s goal top n) ns') d (a .shows s goal g h)) in
-  let is : (s goal : State) → treated acts s goal top (n + 1) ≡ pass acts s (top - (n + 1)) 256 (lower (treated acts s goal top n)) =
-        λ s goal. ap (treated acts s goal top) e ∙ ap (λ (x : ℕ). pass acts s (top - x) 256 (lower (treated acts s goal top n))) (sym e) in
-  record {
-    graph = λ s g. b .graph s top (a .graph s g);
-    shows = λ s goal g h. subst (λ (x : Marks). Shows (top - (n + 1)) x ns'') (sym (is s goal)) (b .shows s top (lower (treated acts s goal top n)) (a .graph s g) (omega arith) (low s goal g h));
-    count = λ s goal g h.
-      ap (λ (x : ℕ). x + r') (a .count s goal g h)
-      ∙ sym (b .count s top (lower (treated acts s goal top n)) (a .graph s g) (omega arith) (low s goal g h))
-      ∙ ap (λ (x : Marks). x .count) (sym (is s goal));
-  }
+    let e : n + 1 ≡ suc n = add-one n in
+    let d : top - n ≡ (top - (n + 1)) + 1 = omega arith in
+    let low : (s goal : State) → Graph acts s top ns → Fresh goal ns → Shows (top - (n + 1)) (lower (treated acts s goal top n)) ns' =
+    λ s goal g h. lower-shows (top - (n + 1)) (treated acts s goal top n) ns' (subst (λ (x : ℕ). Shows x (treated acts s goal top n) ns') d (a .shows s goal g h)) in
+    let is : (s goal : State) → treated acts s goal top (n + 1) ≡ pass acts s (top - (n + 1)) 256 (lower (treated acts s goal top n)) =
+    λ s goal. ap (treated acts s goal top) e ∙ ap (λ (x : ℕ). pass acts s (top - x) 256 (lower (treated acts s goal top n))) (sym e) in
+    record {
+      graph = λ s g. b .graph s top (a .graph s g);
+      shows = λ s goal g h. subst (λ (x : Marks). Shows (top - (n + 1)) x ns'') (sym (is s goal)) (b .shows s top (lower (treated acts s goal top n)) (a .graph s g) (omega arith) (low s goal g h));
+      count = λ s goal g h.
+          ap (λ (x : ℕ). x + r') (a .count s goal g h)
+          ∙ sym (b .count s top (lower (treated acts s goal top n)) (a .graph s g) (omega arith) (low s goal g h))
+          ∙ ap (λ (x : Marks). x .count) (sym (is s goal));
+    }
 
 pub descend-all : (acts : List Action) (top n r : ℕ) (ns ns' : List FactNode) → n ≡ top → Descends acts top n ns ns' r → Extracts acts top top ns ns' r
 descend-all acts top n r ns ns' e a = record {

@@ -9,9 +9,13 @@ use Rattle.strips.specs.declared.action.Action.{Action}
 use Rattle.strips.specs.Semantics.{State, applicable}
 use Rattle.strips.specs.Sound.{act}
 
--- a set of facts, with the adds of action k if its preconditions lie in `base`
+-- whether action k brings something new to the facts `ws`: its preconditions lie in `base`, and its adds not all in `ws`
+abbrev pub brings : List Action → State → State → ℕ → Bool
+brings acts base ws k = applicable (act acts k) base && not (subset (act acts k .add .words) ws)
+
+-- the facts, with what action k brings
 abbrev pub with-adds : List Action → State → ℕ → State → State
-with-adds acts base k ws = cond (applicable (act acts k) base) (union ws (act acts k .add .words)) ws
+with-adds acts base k ws = cond (brings acts base ws k) (union ws (act acts k .add .words)) ws
 
 -- the facts of `base`, with the adds of those of the first n actions whose preconditions lie in `base`
 unfoldable pub grown : List Action → State → ℕ → State

@@ -7,9 +7,10 @@ use lib.Dec.{ltb, eqb}
 use lib.ListN.{length, getD}
 use Rattle.facts.specs.Words.{has}
 use Rattle.strips.specs.declared.action.Action.{Action}
-use Rattle.strips.specs.Semantics.{State, applicable}
+use Rattle.strips.specs.Semantics.{State}
 use Rattle.strips.specs.Sound.{act}
 use Rattle.relaxed.specs.declared.graph.FactNode.{FactNode}
+use Rattle.relaxed.specs.Layers.{brings, grown}
 
 abbrev pub blank : FactNode
 blank = record { level = 0; marked = 0; adder = 0; wanted = false }
@@ -52,11 +53,11 @@ due i n = n .wanted && (eqb (n .level) (i + 1) && ltb (i + 1) (n .marked))
 abbrev pub wanted-first : FactNode → Bool
 wanted-first n = n .wanted && eqb (n .level) 1
 
--- action k, where its preconditions lie in `base`, at layer i
-abbrev pub offered : List Action → State → ℕ → ℕ → ℕ → FactNode → FactNode
-offered acts base i k f n = cond (applicable (act acts k) base) (brought (act acts k .add .words) i k f n) n
+-- action k at layer i, which has the facts `ws` so far
+abbrev pub offered : List Action → State → State → ℕ → ℕ → ℕ → FactNode → FactNode
+offered acts base ws i k f n = cond (brings acts base ws k) (brought (act acts k .add .words) i k f n) n
 
 -- layer i is made by the first n actions
 unfoldable pub joined : List Action → State → ℕ → ℕ → ℕ → FactNode → FactNode
 joined acts base i zero f n = n
-joined acts base i (suc k) f n = offered acts base i k f (joined acts base i k f n)
+joined acts base i (suc k) f n = offered acts base (grown acts base k) i k f (joined acts base i k f n)
