@@ -1,3 +1,4 @@
 pub mod Words
 pub mod GoalLaws
 pub mod Preferring
+pub mod Relaxing

@@ -3,6 +3,7 @@ mod counting;
 mod estimate;
 mod estimator;
 mod preference;
+mod relaxation;
 
 pub use counting::GoalCount;
 pub use counting::GoalCountEstimator;
@@ -12,3 +13,4 @@ pub use estimate::EstimateEq;
 pub use estimate::EstimatePartialEq;
 pub use estimator::Estimator;
 pub use preference::prefer_adding;
+pub use relaxation::plans_relax;

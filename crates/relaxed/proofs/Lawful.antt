@@ -39,7 +39,7 @@ no-word ws f e = ap (λ (w : ℕ). eqb (w / 2 ^ (f % 64) % 2) 1) e ∙ ap (λ (w
 past : (facts ws : State) → length facts ≤ 4 → subset ws facts ≡ true → (f : ℕ) → 256 ≤ f → has ws f ≡ false
 past facts ws few e f l = no-word ws f (within-few facts ws 4 few e (f / 64) (omega arith))
 
-subset-below : (facts xs ys : State) → length facts ≤ 4 → ((k : ℕ) → getD facts k 0 < 2 ^ 64) → subset xs facts ≡ true → ((f : ℕ) → f < 256 → has xs f ≡ true → has ys f ≡ true) → subset xs ys ≡ true
+pub subset-below : (facts xs ys : State) → length facts ≤ 4 → ((k : ℕ) → getD facts k 0 < 2 ^ 64) → subset xs facts ≡ true → ((f : ℕ) → f < 256 → has xs f ≡ true → has ys f ≡ true) → subset xs ys ≡ true
 subset-below facts xs ys few small e h =
     subset-from xs ys (λ k l. word-from-has xs ys k (within-small facts xs small e k) (λ f y. ⊎-elim (λ m. h f m y) (λ m. absurd (both-ways (has xs f) (past facts xs few e f m) y)) (cases-lt f 256)))
 
@@ -50,7 +50,7 @@ never-steps : (n : ℕ) → Never ≡ Steps n → ⊥
 never-steps n e = let z : _≡_ {A = ℕ} 0 1 = cc in omega arith
 
 -- the two cases of the estimate
-steps-are : (acts : List Action) (goal s : State) (n : ℕ) → relaxed-plan acts goal s ≡ Steps n → (last acts goal s < 257) × (extracted acts s goal (last acts goal s) .count ≡ n)
+pub steps-are : (acts : List Action) (goal s : State) (n : ℕ) → relaxed-plan acts goal s ≡ Steps n → (last acts goal s < 257) × (extracted acts s goal (last acts goal s) .count ≡ n)
 unfolding relaxed-plan
 steps-are acts goal s n e = go (ltb (last acts goal s) 257) refl e
   where
@@ -58,7 +58,7 @@ steps-are acts goal s n e = go (ltb (last acts goal s) 257) refl e
     go true h x = (ltb-true (last acts goal s) 257 h, steps-same _ n x)
     go false h x = absurd (never-steps n x)
 
-never-is : (acts : List Action) (goal s : State) → relaxed-plan acts goal s ≡ Never → 257 ≤ last acts goal s
+pub never-is : (acts : List Action) (goal s : State) → relaxed-plan acts goal s ≡ Never → 257 ≤ last acts goal s
 unfolding relaxed-plan
 never-is acts goal s e = go (ltb (last acts goal s) 257) refl e
   where
@@ -71,7 +71,7 @@ unfolding last
 last-before acts goal s j l = first-before (λ i. subset goal (layer acts s i)) 257 j l
 
 -- never: no plan
-pre-within : (facts : State) (a : Action) → within facts a ≡ true → subset (a .pre .words) facts ≡ true
+pub pre-within : (facts : State) (a : Action) → within facts a ≡ true → subset (a .pre .words) facts ≡ true
 unfolding within
 pre-within facts a e = and-parts _ _ e .0
 
@@ -95,7 +95,7 @@ layer-grows : (acts : List Action) (s : State) (i f : ℕ) → has s f ≡ true 
 layer-grows acts s zero f h = ap (λ (x : State). has x f) (sym (layer-none acts s)) ∙ h
 layer-grows acts s (suc i) f h = grows acts s i f (layer-grows acts s i f h)
 
-no-plan : (facts : State) (acts : List Action) (goal s : State) → Asked facts acts goal s → relaxed-plan acts goal s ≡ Never → (ks : List ℕ) → IsPlan acts s goal ks → ⊥
+pub no-plan : (facts : State) (acts : List Action) (goal s : State) → Asked facts acts goal s → relaxed-plan acts goal s ≡ Never → (ks : List ℕ) → IsPlan acts s goal ks → ⊥
 no-plan facts acts goal s q e ks plan =
     ⊎-elim
     (λ x.

@@ -6,3 +6,4 @@ pub mod Building
 pub mod Amounts
 pub mod Answering
 pub mod Lawful
+pub mod Reaching
