@@ -1,0 +1,4 @@
+// What `inspect` says of a state: a line for each estimator.
+mod view;
+
+pub use view::describe;
