@@ -2,3 +2,4 @@ pub mod Sets
 pub mod Insert
 pub mod Bytes
 pub mod Count
+pub mod Members

@@ -4,6 +4,7 @@ ghost use lib.ListN.{length, getD, replicate};
 ghost use mathlib.Core.Bool.{false, not, true, _&&_, _||_};
 ghost use mathlib.Core.Path.{_≡_};
 ghost use Rattle.facts.specs.Field.{bytes as bytesOf, field-bytes, part, set-words, words as wordsAt};
+ghost use Rattle.facts.specs.Members.{Next};
 ghost use Rattle.facts.specs.Words.{bit, common, has, insert as inserted, none, size, subset, union as unionOf, without};
 ghost use Rattle.std.specs.Options.{Cases};
 ghost use Rattle.std.specs.Orderings.{Decides};
@@ -40,6 +41,16 @@ impl FactSet {
         ensures members { λ _. ⌜ ((f : ℕ) → has (now (self .exit) .words) f ≡ (has (now (self .entry) .words) f || eqb fact f)) ⌝ }
     {
         words::insert(&mut self.words, usize::from(fact));
+    }
+
+    // The lowest fact of the set that is not below `from`.
+    pub fn next(&self, from: usize) -> Option<u8>
+        ensures { λ r. ⌜ Next (now (self .entry) .words) from r ⌝ }
+    {
+        match words::next(&self.words, from) {
+            Some(fact) => Some(fact as u8),
+            None => None,
+        }
     }
 
     pub fn is_subset(&self, other: &FactSet) -> bool

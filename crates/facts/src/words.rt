@@ -5,7 +5,9 @@ ghost use mathlib.Core.Bool.{not, true};
 ghost use mathlib.Core.Path.{_≡_};
 ghost use Rattle.facts.specs.Field.{bytes as bytesOf, number as numberAt, words as wordsAt};
 ghost use Rattle.facts.specs.Words.{common as commonOf, has, insert as inserted, none, subset, union as unionOf, without};
+ghost use Rattle.facts.specs.Members.{Next};
 ghost use Rattle.std.specs.Orderings.{Decides};
+ghost use Rattle.std.specs.Slices.{found};
 
 const WORD_BITS: usize = 64;
 
@@ -23,6 +25,23 @@ pub(crate) fn insert(words: &mut [u64], number: usize)
     ensures { λ _. ⌜ now (words .exit) ≡ inserted (now (words .entry)) number ⌝ }
 {
     words[number / WORD_BITS] |= 1u64 << (number % WORD_BITS);
+}
+
+// The lowest member that is not below `from`. It looks at words, so it passes over 64 numbers at a time.
+pub(crate) fn next(words: &[u64], from: usize) -> Option<usize>
+    requires { ⌜ length (now words) < 2 ^ 32 ⌝ }
+    ensures member { λ r. ⌜ Next (now (words .entry)) from r ⌝ }
+    ensures within { λ r. ⌜ found r (λ n. n / 64 < length (now (words .entry))) ⌝ }
+{
+    let mut at = from;
+    while at / WORD_BITS < words.len() {
+        let rest = words[at / WORD_BITS] >> (at % WORD_BITS);
+        if rest != 0 {
+            return Some(at + rest.trailing_zeros() as usize);
+        }
+        at = (at / WORD_BITS + 1) * WORD_BITS;
+    }
+    None
 }
 
 pub(crate) fn is_subset(words: &[u64], other: &[u64]) -> bool

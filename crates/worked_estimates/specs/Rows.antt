@@ -10,6 +10,7 @@ use Rattle.heuristic.specs.declared.estimate.Estimate.{Estimate}
 use Rattle.heuristic.specs.declared.estimate.Estimate.the-variants.{Steps, Never}
 use Rattle.heuristic.specs.GoalCount.{goals-missing}
 use Rattle.relaxed.specs.Plan.{helpful, relaxed-plan}
+use Rattle.weights.specs.Weights.{goal-weight}
 
 -- a set of facts below 64, as the bits of a number
 abbrev pub set : ℕ → State
@@ -45,13 +46,17 @@ row means acts goal state expected = record { means = means; acts = acts; goal =
 abbrev pub rows : List Row
 rows =
     row relaxed-plan three-lifts 6 0 (Steps 3)
+    ∷ row goal-weight three-lifts 6 0 (Steps 4)
     ∷ row relaxed-plan (ladder 8) (4 ^ 8) 3 (Steps 15)
+    ∷ row goal-weight (ladder 8) (4 ^ 8) 3 (Steps 255)
     ∷ row relaxed-plan (ladder 16) (4 ^ 16) 3 (Steps 31)
+    ∷ row goal-weight (ladder 16) (4 ^ 16) 3 (Steps 65534)
     ∷ row relaxed-plan key 6 1 (Steps 2)
     ∷ row relaxed-plan key 6 2 Never
     ∷ row relaxed-plan [] 1 0 Never
     ∷ row goals-missing [] 1 0 (Steps 1)
     ∷ row relaxed-plan [] 0 0 (Steps 0)
+    ∷ row goal-weight [] 0 0 (Steps 0)
     ∷ row goals-missing [] 0 0 (Steps 0)
     ∷ []
 

@@ -1,0 +1,3 @@
+// Tests of the crate `open_list`, apart from it, since a crate with tests is proved twice.
+#[cfg(test)]
+mod tests;
