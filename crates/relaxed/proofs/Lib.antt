@@ -7,3 +7,4 @@ pub mod Amounts
 pub mod Answering
 pub mod Lawful
 pub mod Reaching
+pub mod Doing

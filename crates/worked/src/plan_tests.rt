@@ -19,7 +19,7 @@ use planfile::write;
 use std::test::*;
 
 // The file of the plan 2, 0, 1 for three lifts.
-fn solution() -> [u8; 102] {
+pub fn solution() -> [u8; 102] {
     let mut file = [0u8; 102];
     put(&mut file, 0, 2);
     put(&mut file, 2, 0x01);
