@@ -52,8 +52,11 @@ rows =
     ∷ row relaxed-plan (ladder 16) (4 ^ 16) 3 (Steps 31)
     ∷ row goal-weight (ladder 16) (4 ^ 16) 3 (Steps 65534)
     ∷ row relaxed-plan key 6 1 (Steps 2)
+    ∷ row goal-weight key 6 1 (Steps 2)
     ∷ row relaxed-plan key 6 2 Never
+    ∷ row goal-weight key 6 2 Never
     ∷ row relaxed-plan [] 1 0 Never
+    ∷ row goal-weight [] 1 0 Never
     ∷ row goals-missing [] 1 0 (Steps 1)
     ∷ row relaxed-plan [] 0 0 (Steps 0)
     ∷ row goal-weight [] 0 0 (Steps 0)

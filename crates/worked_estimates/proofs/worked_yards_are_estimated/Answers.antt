@@ -14,6 +14,6 @@ pub returns : need.returns
 unfolding relaxed-plan last layer pass treated has union without subset first grown helpful useful common none goals-missing size ones onesIn weights settled opening height weigh-pass lowered total
 returns c =
     record {
-      rows = (refl, (refl, (refl, (refl, (refl, (refl, (refl, (refl, (refl, (refl, (refl, (refl, (refl, tt)))))))))))));
+      rows = (refl, (refl, (refl, (refl, (refl, (refl, (refl, (refl, (refl, (refl, (refl, (refl, (refl, (refl, (refl, (refl, tt))))))))))))))));
       helpful = refl;
     }
