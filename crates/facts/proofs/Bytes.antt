@@ -1,8 +1,8 @@
 -- Lemmas on sets in files.
-use Rattle.std.proofs.Common.{◌≡◌, ℕ, zero, suc, ◌+◌, ◌-◌, ◌*◌, ◌/◌, ◌%◌, ◌^◌, ◌<◌, ◌≤◌, eqb, List, map, length, get_or, take, drop, sym, refl, ap, ◌∙◌, ⊎_elim, arith, length-drop, length-take, get_or-drop, get_or-take}
+use Rattle.std.proofs.Common.{◌≡◌, ℕ, zero, suc, ◌+◌, ◌-◌, ◌*◌, ◌/◌, ◌%◌, ◌^◌, ◌<◌, ◌≤◌, eqb, List, length, get_or, drop, sym, ap, ◌∙◌, ⊎_elim, arith, length-drop, length-take, get_or-drop, get_or-take}
 use native.Mathlib.Nat.{pow-succ'}
 use Rattle.std.proofs.lemmas.Nat.{shr-shr}
-use Rattle.std.specs.List.{range_with_len, AllByRecursion as All}
+use Rattle.std.specs.List.{AllByRecursion}
 use Rattle.std.proofs.lemmas.List.FromFn.{get_or-map-range_with_len, length-map-range_with_len, fill_by_all}
 use Rattle.std.proofs.ByRecursion.{All-get_or, All-from_get_or}
 use Rattle.std.proofs.lemmas.List.{ext_get_or, get_or_past}
@@ -72,11 +72,11 @@ number_small (suc n) bs at small =
     let p = pow-succ' 256 n in
     omega arith
 
-pub each_small : (bs : List ℕ) → All (λ b. b < 256) bs → (k : ℕ) → get_or bs k 0 < 256
+pub each_small : (bs : List ℕ) → AllByRecursion (λ b. b < 256) bs → (k : ℕ) → get_or bs k 0 < 256
 each_small bs small k =
     ⊎_elim (λ l. All-get_or (λ b. b < 256) bs k 0 l small) (λ l. let e = get_or_past bs k 0 l in omega arith) (cases_lt k (length bs))
 
-pub words_small : (n : ℕ) (bs : List ℕ) (at : ℕ) → ((k : ℕ) → get_or bs k 0 < 256) → All (λ w. w < 2 ^ 64) (words n bs at)
+pub words_small : (n : ℕ) (bs : List ℕ) (at : ℕ) → ((k : ℕ) → get_or bs k 0 < 256) → AllByRecursion (λ w. w < 2 ^ 64) (words n bs at)
 unfolding words
 words_small n bs at small =
     All-from_get_or (λ w. w < 2 ^ 64) (words n bs at) 0
@@ -119,7 +119,7 @@ has_back ws f l =
     ∙ rw (p, q)
 
 -- a set is read back from its bytes
-pub words_back : (ws : List ℕ) → All (λ w. w < 2 ^ 64) ws → words (length ws) (bytes (8 * length ws) ws) 0 ≡ ws
+pub words_back : (ws : List ℕ) → AllByRecursion (λ w. w < 2 ^ 64) ws → words (length ws) (bytes (8 * length ws) ws) 0 ≡ ws
 words_back ws small =
     let bs : List ℕ = bytes (8 * length ws) ws in
     let len = length_words (length ws) bs 0 in

@@ -1,8 +1,7 @@
 -- The size of a set is the number of its members.
-use Rattle.std.proofs.Common.{◌≡◌, ℕ, zero, suc, ◌+◌, ◌-◌, ◌*◌, ◌/◌, ◌%◌, ◌^◌, ◌<◌, ◌≤◌, Bool, true, false, cond, eqb, List, [], ◌∷◌, length, get_or, sym, refl, ap, ◌∙◌, add-zero, add-suc, div-one, one-add, arith}
-use native.Mathlib.Nat.{zero-div}
+use Rattle.std.proofs.Common.{◌≡◌, ℕ, zero, suc, ◌+◌, ◌*◌, ◌/◌, ◌%◌, ◌^◌, ◌<◌, Bool, cond, eqb, List, [], ◌∷◌, length, sym, refl, ap, ◌∙◌, add-zero, add-suc, div-one, one-add, arith}
 use lib.Count.{ones, ones_step}
-use Rattle.std.specs.List.{AllByRecursion as All}
+use Rattle.std.specs.List.{AllByRecursion}
 use Rattle.std.proofs.lemmas.List.Sums.{sum_by-cons}
 use Rattle.facts.specs.Words.{bit, has, size, tally}
 use Rattle.facts.proofs.Sets.{half_bit, bit_is, pow_two_suc}
@@ -59,7 +58,7 @@ has_cons_high w ws f =
 glue : {o s a b c d t : ℕ} → o ≡ a → b ≡ a → c ≡ d → s ≡ d → t ≡ b + c → o + s ≡ t
 glue p q r u v = omega arith
 
-pub size_tally : (ws : List ℕ) → All (λ w. w < 2 ^ 64) ws → size ws ≡ tally (has ws) (64 * length ws)
+pub size_tally : (ws : List ℕ) → AllByRecursion (λ w. w < 2 ^ 64) ws → size ws ≡ tally (has ws) (64 * length ws)
 unfolding size
 size_tally [] small = refl
 size_tally (w ∷ ws) small =

@@ -1,11 +1,11 @@
 -- Lemmas on the next member of a set.
-use Rattle.std.proofs.Common.{◌≡◌, ℕ, zero, suc, ◌+◌, ◌-◌, ◌*◌, ◌/◌, ◌%◌, ◌^◌, ◌<◌, ◌≤◌, Bool, true, false, eqb, List, length, get_or, sym, refl, ap, ◌∙◌, ⊎_elim, lt_of_lt_of_le, lt_of_le_of_lt, div-one, arith, pow_mono, shr-shr}
+use Rattle.std.proofs.Common.{◌≡◌, ℕ, zero, suc, ◌+◌, ◌-◌, ◌*◌, ◌/◌, ◌%◌, ◌^◌, ◌<◌, ◌≤◌, true, false, eqb, List, get_or, sym, refl, ap, ◌∙◌, ⊎_elim, lt_of_lt_of_le, lt_of_le_of_lt, div-one, arith, pow_mono, shr-shr}
 use native.Mathlib.Nat.{div-eq_of_lt, zero-div}
 use lib.Count.{count_trailing_zeros, under}
 use lib.Pow.{shr_le}
-use Rattle.std.proofs.lemmas.Bool.{cases_lt, eq-eqb}
+use Rattle.std.proofs.lemmas.Bool.{cases_lt}
 use Rattle.facts.specs.Words.{bit, has}
-use Rattle.facts.proofs.Sets.{half_bit, bit_is, has_past, pow_two_suc}
+use Rattle.facts.proofs.Sets.{half_bit, pow_two_suc}
 
 -- t is the place of the lowest bit
 abbrev Lowest : ℕ → ℕ → Type 0

@@ -1,9 +1,9 @@
 -- Lemmas on sets as lists of words.
-use Rattle.std.proofs.Common.{◌≡◌, ℕ, zero, suc, ◌+◌, ◌-◌, ◌*◌, ◌/◌, ◌%◌, ◌^◌, ◌<◌, ◌≤◌, min, max, Bool, true, false, not, ◌&&◌, ◌||◌, eqb, ◌⊎◌, List, [], ◌∷◌, map, length, get_or, take, set, Decides, sym, refl, ap, ◌∙◌, inl, inr, ⊎_elim, div-one, arith, length-set, get_or-set_other, pow_mono, rules, below_more}
+use Rattle.std.proofs.Common.{◌≡◌, ℕ, zero, suc, ◌+◌, ◌-◌, ◌*◌, ◌/◌, ◌%◌, ◌^◌, ◌<◌, ◌≤◌, min, max, Bool, true, false, not, ◌&&◌, ◌||◌, eqb, List, [], map, length, get_or, take, set, sym, refl, ap, ◌∙◌, ⊎_elim, div-one, arith, length-set, get_or-set_other, pow_mono, below_more}
 use native.Mathlib.Nat.{pow-succ', zero-min, zero-div, div-div-eq-div-mul}
-use lib.Bits.{bit_and, bit_or, bit_xor, and_step, or_step, xor_step, and_shr, or_shr, xor_shr, and_mask, and_zero_l, and_self, differ}
-use lib.Count.{ones, ones-le}
-use Rattle.std.specs.List.{range_with_len, AllByRecursion as All}
+use lib.Bits.{bit_and, bit_or, bit_xor, and_step, or_step, xor_step, and_shr, or_shr, xor_shr, and_zero_l, and_self, differ}
+use lib.Count.{ones}
+use Rattle.std.specs.List.{range_with_len, AllByRecursion}
 use Rattle.std.proofs.lemmas.List.FromFn.{fill_by_all, get_or-map-range_with_len, length-map-range_with_len}
 use Rattle.std.proofs.lemmas.List.{get_or_past, ext_get_or}
 use Rattle.std.proofs.lemmas.List.Sums.{sum_by_more}
@@ -11,8 +11,8 @@ use Rattle.std.proofs.lemmas.Nat.{mod_below, mod-mul-add, div-mul-add, and_le_l}
 use Rattle.std.proofs.ByRecursion.{All-get_or}
 use Rattle.std.proofs.lemmas.List.Edits.{fill_by_more}
 use Rattle.std.proofs.lemmas.Bool.{and_parts, and_from, both_ways, cases_Bool, cases_lt, eq-eqb, ne_eqb, eqb-true, eqb-false}
-use Rattle.facts.specs.Words.{bit, has, zipped, minus, union, without, common, every, subset, none, size, insert}
-use Rattle.facts.specs.Field.{number, words, bytes}
+use Rattle.facts.specs.Words.{bit, has, zipped, minus, union, without, common, every, subset, none, size}
+use Rattle.facts.specs.Field.{number, words}
 
 pub every_true : (p : ℕ → Bool) (n : ℕ) → every p n ≡ true → (k : ℕ) → k < n → p k ≡ true
 every_true p zero e k h = absurd (omega arith)
@@ -278,7 +278,7 @@ word_from_has xs ys k lx h =
     (λ t. sym (has_at ys k j m) ∙ h (k * 64 + j) (has_at xs k j m ∙ t)))
 
 -- the test `subset` says that each member of the one is a member of the other
-pub subset_from_has : (xs ys : List ℕ) → All (λ w. w < 2 ^ 64) xs → ((f : ℕ) → has xs f ≡ true → has ys f ≡ true) → subset xs ys ≡ true
+pub subset_from_has : (xs ys : List ℕ) → AllByRecursion (λ w. w < 2 ^ 64) xs → ((f : ℕ) → has xs f ≡ true → has ys f ≡ true) → subset xs ys ≡ true
 subset_from_has xs ys small h =
     subset_from xs ys (λ k l. word_from_has xs ys k (All-get_or (λ w. w < 2 ^ 64) xs k 0 l small) h)
 
@@ -286,7 +286,7 @@ pub low_same : (x y : ℕ) → x < 2 → y < 2 → eqb x 1 ≡ eqb y 1 → x ≡
 low_same x y p q e = ⊎_elim (λ h. eqb-true x 1 h ∙ sym (eqb-true y 1 (sym e ∙ h))) (λ h. let nx = eqb-false x 1 h in let ny = eqb-false y 1 (sym e ∙ h) in omega arith) (cases_Bool (eqb x 1))
 
 -- sets of as many words are equal if they have the same members
-pub same_sets : (xs ys : List ℕ) → length xs ≡ length ys → All (λ w. w < 2 ^ 64) xs → All (λ w. w < 2 ^ 64) ys → ((f : ℕ) → has xs f ≡ has ys f) → xs ≡ ys
+pub same_sets : (xs ys : List ℕ) → length xs ≡ length ys → AllByRecursion (λ w. w < 2 ^ 64) xs → AllByRecursion (λ w. w < 2 ^ 64) ys → ((f : ℕ) → has xs f ≡ has ys f) → xs ≡ ys
 same_sets xs ys e sx sy h =
     ext_get_or 0 xs ys e
     (λ k l.
@@ -327,7 +327,7 @@ none_has ws e n = zero_word ws n (none_word ws e (n / 64))
 low_zero : (x : ℕ) → x < 2 → eqb x 1 ≡ false → x ≡ 0
 low_zero x l e = let n = eqb-false x 1 e in omega arith
 
-pub none_from_has : (ws : List ℕ) → All (λ w. w < 2 ^ 64) ws → ((n : ℕ) → has ws n ≡ false) → none ws ≡ true
+pub none_from_has : (ws : List ℕ) → AllByRecursion (λ w. w < 2 ^ 64) ws → ((n : ℕ) → has ws n ≡ false) → none ws ≡ true
 none_from_has ws small h =
     none_from ws
     (λ k l.

@@ -1,15 +1,15 @@
 -- The laws of sets as lists of words, of any length.
-use Rattle.std.specs.Prelude.{◌≡◌, ℕ, ◌+◌, ◌*◌, ◌/◌, ◌^◌, ◌<◌, ◌≤◌, Bool, true, false, not, ◌&&◌, ◌||◌, List, length, ◌==◌}
-use Rattle.std.specs.List.{AllByRecursion as All}
+use Rattle.std.specs.Prelude.{◌≡◌, ℕ, ◌+◌, ◌*◌, ◌/◌, ◌^◌, ◌<◌, ◌≤◌, true, false, not, ◌&&◌, ◌||◌, List, length, ◌==◌}
+use Rattle.std.specs.List.{AllByRecursion}
 use Rattle.facts.specs.Words.{has, union, without, common, subset, none, size, insert, tally}
 use Rattle.facts.specs.Field.{words, bytes, part}
 
 -- each word has at most 64 bits, as those of the code have; each byte at most 8
 abbrev pub Words : List ℕ → Type 0
-Words ws = All (λ w. w < 2 ^ 64) ws
+Words ws = AllByRecursion (λ w. w < 2 ^ 64) ws
 
 abbrev pub Bytes : List ℕ → Type 0
-Bytes bs = All (λ b. b < 256) bs
+Bytes bs = AllByRecursion (λ b. b < 256) bs
 
 abbrev pub UnionMembers : Type 0
 UnionMembers = (xs ys : List ℕ) (n : ℕ) → has (union xs ys) n ≡ (has xs n || has ys n)

@@ -1,5 +1,5 @@
 -- Sets of numbers as lists of 64-bit words, of any length: number n is bit n % 64 of word n / 64.
-use Rattle.std.specs.Prelude.{ℕ, zero, suc, ◌+◌, ◌-◌, ◌*◌, ◌/◌, ◌%◌, ◌^◌, max, Bool, true, false, cond, not, ◌&&◌, List, [], ◌∷◌, map, length, set, sum_by, ◌==◌, bit_and, bit_or, bit_xor, count_ones, nat_eq, slice_index, slice_set}
+use Rattle.std.specs.Prelude.{ℕ, zero, suc, ◌+◌, ◌/◌, ◌%◌, ◌^◌, max, Bool, true, cond, not, ◌&&◌, List, map, length, sum_by, ◌==◌, bit_and, bit_or, bit_xor, count_ones, nat_eq, slice_index, slice_set}
 use Rattle.std.specs.List.{range_with_len}
 
 -- bit k of the number w

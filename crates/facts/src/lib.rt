@@ -1,4 +1,6 @@
 // Sets of facts and sets of action numbers, over slices of words.
+#![tactic(auto)]
+
 mod actions;
 pub mod laws;
 mod set;

@@ -1,11 +1,12 @@
 ghost use Rattle.std.specs.Prelude.{◌≡◌, ℕ, ◌+◌, ◌*◌, ◌/◌, ◌%◌, ◌<◌, ◌≤◌, true, false, not, ◌&&◌, ◌||◌, length, replicate, IfSome, Decides, MatchOption, ◌==◌, slice_index};
-ghost use Rattle.facts.specs.Digest.{digest as digestOf};
-ghost use Rattle.facts.specs.Field.{bytes as bytes_of, field_bytes, part, set_words, words as wordsAt};
+ghost use Rattle.facts.specs.Digest.{digest as digest_of};
+ghost use Rattle.facts.specs.Field.{bytes as bytes_of, field_bytes, part, set_words, words as words_at};
 ghost use Rattle.facts.specs.Members.{Next};
-ghost use Rattle.facts.specs.Words.{bit, common, has, insert as inserted, none, size, subset, union as unionOf, without};
+ghost use Rattle.facts.specs.Words.{bit, common, has, insert as inserted, none, size, subset, union as union_of, without};
 ghost use Rattle.std.specs.Cmp.Rules.{comparing};
 ghost use Rattle.std.proofs.Common.{rules};
-ghost use Rattle.std.specs.Cmp as Keys;
+ghost use Rattle.std.specs.Cmp.Lexicographic.{pointwise};
+ghost use Rattle.std.specs.Ordering.{on};
 
 use crate::words;
 
@@ -71,7 +72,7 @@ impl FactSet {
     }
 
     pub fn union(&self, other: &FactSet) -> FactSet
-        ensures words { result.words ≡ unionOf self.now.words other.now.words }
+        ensures words { result.words ≡ union_of self.now.words other.now.words }
         ensures members { (f : ℕ) → has result.words f ≡ (has self.now.words f || has other.now.words f) }
     {
         let mut joined = *self;
@@ -101,7 +102,7 @@ impl FactSet {
 
     // A number that spreads sets over the buckets of a table.
     pub fn digest(&self) -> u64
-        ensures { result ≡ digestOf self.now.words }
+        ensures { result ≡ digest_of self.now.words }
     {
         words::digest(&self.words)
     }
@@ -110,7 +111,7 @@ impl FactSet {
 impl FactSet {
     // The set whose field begins at the byte `at`, where the bytes reach that far.
     pub fn read(bytes: &[u8], at: usize) -> Option<FactSet>
-        ensures words { MatchOption result (length bytes.now < at + field_bytes) (λ s. (at + field_bytes ≤ length bytes.now) × (s.words ≡ wordsAt set_words bytes.now at)) }
+        ensures words { MatchOption result (length bytes.now < at + field_bytes) (λ s. (at + field_bytes ≤ length bytes.now) × (s.words ≡ words_at set_words bytes.now at)) }
         ensures members { IfSome result (λ s. (f : ℕ) → f < 256 → has s.words f ≡ (bit (slice_index bytes.now (at + f / 8)) (f % 8) == 1)) }
         ensures written_again { IfSome result (λ s. bytes_of field_bytes s.words ≡ part field_bytes bytes.now at) }
     {
@@ -125,7 +126,7 @@ impl FactSet {
     // The bytes of the set's field.
     pub fn to_bytes(&self) -> [u8; BYTES]
         ensures bytes { result ≡ bytes_of field_bytes self.now.words }
-        ensures read_back { wordsAt set_words result 0 ≡ self.now.words }
+        ensures read_back { words_at set_words result 0 ≡ self.now.words }
     {
         let mut field = [0u8; BYTES];
         words::write(&self.words, &mut field);
@@ -134,11 +135,14 @@ impl FactSet {
 }
 
 impl PartialEq for FactSet {
-    ghost equals = { λ x y r. Decides r (x ≡ y) };
+    ghost eq = { on (λ s. s.words) (pointwise ◌==◌) };
 
-    ghost laws = { Keys.partial_equiv_from_equiv (Prim.search (comparing, rules)) };
+    ghost laws = { Prim.search (comparing, rules) };
 
-    fn eq(&self, other: &FactSet) -> bool {
+    fn eq(&self, other: &FactSet) -> bool
+        ensures test { result ≡ pointwise ◌==◌ self.now.words other.now.words }
+        ensures same { Decides result (self.now ≡ other.now) }
+    {
         words::same(&self.words, &other.words)
     }
 }

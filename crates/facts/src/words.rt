@@ -1,8 +1,8 @@
 // Sets as slices of words: number n is bit n % 64 of word n / 64. Every set type is made of these functions.
 ghost use Rattle.std.specs.Prelude.{◌≡◌, ℕ, ◌+◌, ◌*◌, ◌/◌, ◌%◌, ◌^◌, ◌<◌, ◌≤◌, true, not, length, IfSome, Decides, slice_index};
-ghost use Rattle.facts.specs.Digest.{digest as digestOf, stirred};
-ghost use Rattle.facts.specs.Field.{bytes as bytes_of, number as number_at, words as wordsAt};
-ghost use Rattle.facts.specs.Words.{common as commonOf, has, insert as inserted, none, subset, union as unionOf, without};
+ghost use Rattle.facts.specs.Digest.{digest as digest_of, stirred};
+ghost use Rattle.facts.specs.Field.{bytes as bytes_of, number as number_at, words as words_at};
+ghost use Rattle.facts.specs.Words.{common as common_of, has, insert as inserted, none, subset, union as union_of, without};
 ghost use Rattle.facts.specs.Members.{Next};
 
 const WORD_BITS: usize = 64;
@@ -69,7 +69,7 @@ pub(crate) fn is_empty(words: &[u64]) -> bool
 
 pub(crate) fn intersects(words: &[u64], other: &[u64]) -> bool
     requires { length words.now ≡ length other.now }
-    ensures { result ≡ not (none (commonOf words.now other.now)) }
+    ensures { result ≡ not (none (common_of words.now other.now)) }
 {
     for i in 0..words.len() {
         if words[i] & other[i] != 0 {
@@ -81,7 +81,7 @@ pub(crate) fn intersects(words: &[u64], other: &[u64]) -> bool
 
 pub(crate) fn unite(words: &mut [u64], other: &[u64])
     requires { length words.old ≡ length other.now }
-    ensures { words.new ≡ unionOf words.old other.now }
+    ensures { words.new ≡ union_of words.old other.now }
 {
     for i in 0..words.len() {
         words[i] |= other[i];
@@ -118,7 +118,7 @@ fn stir(mixed: u64, word: u64) -> u64
 
 // A number that spreads sets over the buckets of a table.
 pub(crate) fn digest(words: &[u64]) -> u64
-    ensures { result ≡ digestOf words.now }
+    ensures { result ≡ digest_of words.now }
 {
     let mut mixed = 0;
     for word in words {
@@ -147,7 +147,7 @@ fn read_word(bytes: &[u8], at: usize) -> u64
 // Fills the words from the bytes from `at` on.
 pub(crate) fn read(words: &mut [u64], bytes: &[u8], at: usize)
     requires { at + 8 * length words.old ≤ length bytes.now }
-    ensures { words.new ≡ wordsAt (length words.old) bytes.now at }
+    ensures { words.new ≡ words_at (length words.old) bytes.now at }
 {
     for i in 0..words.len() {
         words[i] = read_word(bytes, at + WORD_BYTES * i);
@@ -166,7 +166,7 @@ fn byte_at(words: &[u64], k: usize) -> u8
 pub(crate) fn write(words: &[u64], field: &mut [u8])
     requires { length field.old ≡ 8 * length words.now }
     ensures bytes { field.new ≡ bytes_of (8 * length words.now) words.now }
-    ensures read_back { wordsAt (length words.now) field.new 0 ≡ words.now }
+    ensures read_back { words_at (length words.now) field.new 0 ≡ words.now }
 {
     for k in 0..field.len() {
         field[k] = byte_at(words, k);

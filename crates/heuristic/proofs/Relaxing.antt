@@ -1,15 +1,14 @@
 -- Lemmas on ignoring deletes.
-use Rattle.std.proofs.Common.{◌≡◌, ℕ, ◌+◌, ◌-◌, ◌/◌, ◌%◌, ◌^◌, ◌<◌, ◌≤◌, min, max, Bool, true, List, [], ◌∷◌, map, length, get_or, sym, refl, ap, ◌∙◌, arith}
+use Rattle.std.proofs.Common.{◌≡◌, ℕ, ◌%◌, ◌^◌, true, List, [], map, get_or, ap, ◌∙◌, arith}
 use native.Mathlib.Nat.{zero-div}
 use lib.Bits.{bit_and, bit_or}
 use lib.ListN.{length-map, get_or-map}
-use Rattle.std.proofs.lemmas.List.{get_or_past}
 use Rattle.facts.specs.Words.{bit, minus, subset, union, without}
 use Rattle.facts.proofs.Sets.{bit-and, bit_is, bit_minus, bit-or, getD_union, getD_without, same_number, subset_from, subset_self, subset_trans, union_within, without_within}
 use Rattle.strips.specs.declared.action.Action.{Action}
-use Rattle.strips.specs.Semantics.{State, applicable, result, Run, stop, step, IsPlan}
-use Rattle.strips.specs.Sound.{act, AllWithin, within}
-use Rattle.heuristic.specs.Relaxation.{IsRelaxedPlan, PlansRelax, without_deletes}
+use Rattle.strips.specs.Semantics.{State, applicable, result, Run, stop, step}
+use Rattle.strips.specs.Sound.{act}
+use Rattle.heuristic.specs.Relaxation.{PlansRelax, without_deletes}
 
 pub act_relaxed : (acts : List Action) (k : ℕ) → act (map without_deletes acts) k ≡ without_deletes (act acts k)
 act_relaxed acts k = get_or-map without_deletes acts k (record { pre = record { words = [] }; add = record { words = [] }; del = record { words = [] } })

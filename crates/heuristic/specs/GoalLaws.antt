@@ -1,16 +1,14 @@
 -- Goal count keeps the laws.
-use Rattle.std.specs.Prelude.{◌≡◌, ℕ, zero, suc, ◌+◌, ◌*◌, ◌/◌, ◌%◌, ◌^◌, ◌<◌, ◌≤◌, max, Bool, true, false, not, ◌&&◌, List, [], ◌∷◌, length, bit_and, bit_xor, slice_index, refl}
-use Rattle.std.proofs.Common.{sym, ap, ◌∙◌, ⊎_elim, arith}
-use Rattle.std.specs.Int.Bits.{xor_assoc, xor_self, xor_zero_l, xor_zero_r, and_lt, and_zero_r}
-use Rattle.std.proofs.lemmas.Nat.{and_le_l, and_le_r, xor_lt}
+use Rattle.std.specs.Prelude.{◌≡◌, ℕ, ◌^◌, ◌<◌, ◌≤◌, true, length, bit_and, bit_xor, slice_index}
+use Rattle.std.proofs.Common.{sym, ap, ◌∙◌, arith}
+use Rattle.std.specs.Int.Bits.{xor_assoc, xor_self, xor_zero_l, xor_zero_r}
+use Rattle.std.proofs.lemmas.Nat.{and_le_l, xor_lt}
 use Rattle.std.proofs.lemmas.Bool.{and_parts, ltb-true}
 use Rattle.facts.specs.Words.{subset, size, without, minus}
-use Rattle.facts.proofs.Sets.{subset_from, subset_word, getD_without, length_without, pow_two_suc}
-use Rattle.strips.specs.declared.action.Action.{Action}
-use Rattle.strips.specs.Semantics.{State, applicable, IsPlan}
-use Rattle.heuristic.specs.declared.estimate.Estimate.{Estimate}
-use Rattle.heuristic.specs.declared.estimate.Estimate.TheVariants.{Steps, Never}
-use Rattle.heuristic.specs.Laws.{Laws, Asked}
+use Rattle.facts.proofs.Sets.{subset_from, subset_word, getD_without}
+use Rattle.strips.specs.Semantics.{State}
+use Rattle.heuristic.specs.declared.estimate.Estimate.TheVariants.{Steps}
+use Rattle.heuristic.specs.Laws.{Laws}
 use Rattle.heuristic.specs.Useful.{useful}
 use Rattle.heuristic.specs.Words.{size_bound, size_zero, within_small, within_few}
 use Rattle.heuristic.specs.GoalCount.{goals_missing, adds_missing}

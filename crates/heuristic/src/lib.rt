@@ -1,4 +1,6 @@
 // What an estimator is, and the simplest one.
+#![tactic(auto)]
+
 mod counting;
 mod estimate;
 mod estimator;

@@ -1,5 +1,5 @@
 -- Lemmas on the faults of a task file.
-use Rattle.std.proofs.Common.{◌≡◌, ℕ, zero, suc, ◌+◌, ◌*◌, ◌/◌, ◌%◌, ◌^◌, ◌<◌, ◌≤◌, Bool, true, false, eqb, List, map, length, get_or, Some, None, Option, sym, refl, ap, ◌∙◌, ⊎_elim, add-one, arith, below_more}
+use Rattle.std.proofs.Common.{◌≡◌, ℕ, zero, suc, ◌+◌, ◌*◌, ◌/◌, ◌%◌, ◌^◌, ◌<◌, ◌≤◌, Bool, true, List, map, length, get_or, Some, None, Option, sym, refl, ap, ◌∙◌, ⊎_elim, add-one, arith, below_more}
 use Rattle.std.specs.List.{range_with_len}
 use Rattle.std.proofs.lemmas.List.FromFn.{get_or-map-range_with_len, length-map-range_with_len}
 use Rattle.std.proofs.lemmas.Bool.{cases_lt}
@@ -12,7 +12,7 @@ use Rattle.facts.specs.Field.{field_bytes, set_words}
 use Rattle.facts.specs.Words.{subset}
 use Rattle.strips.specs.declared.action.Action.{Action}
 use Rattle.strips.specs.declared.fault.Fault.{Fault}
-use Rattle.strips.specs.Laws.{TaskFile, FaultlessIsTask, TaskIsFaultless, FieldBits}
+use Rattle.strips.specs.Laws.{FaultlessIsTask, TaskIsFaultless, FieldBits}
 use Rattle.strips.specs.Records.{action, action_count, action_fault, actions_fault, field, record_bytes, task_fault}
 use Rattle.strips.specs.Sound.{act, AllWithin, AllClashFree, within, is_clash_free}
 

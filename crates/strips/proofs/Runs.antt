@@ -1,11 +1,11 @@
 -- Lemmas on runs.
-use Rattle.std.proofs.Common.{◌≡◌, ℕ, ◌<◌, Bool, true, ◌&&◌, List, [], ◌∷◌, ◌++◌, length, sym, refl, ap, ◌∙◌}
+use Rattle.std.proofs.Common.{◌≡◌, ℕ, ◌<◌, true, List, [], ◌∷◌, ◌++◌, length, refl}
 use Rattle.std.proofs.lemmas.Bool.{and_parts}
 use Rattle.facts.specs.Words.{subset, without}
 use Rattle.facts.proofs.Sets.{union_within, without_within}
 use Rattle.strips.specs.declared.action.Action.{Action}
 use Rattle.strips.specs.Laws.{ReachedByRun, RunReaches, RunsAgree, RunsJoin, RunsStay}
-use Rattle.strips.specs.Sound.{act, within, AllWithin}
+use Rattle.strips.specs.Sound.{act, within}
 use Rattle.strips.specs.Semantics.{State, applicable, result, Run, stop, step, Reaches, here, onward}
 
 -- the parts of `within`

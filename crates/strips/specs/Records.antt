@@ -1,7 +1,7 @@
 -- The task that bytes describe, and the first fault of those that describe none.
 -- A file is a run of records of three fields, each of them a set. Record 0 has the initial state, the goal and the facts in use;
 -- each later record is an action, with its preconditions, adds and deletes.
-use Rattle.std.specs.Prelude.{◌≡◌, ℕ, zero, suc, ◌+◌, ◌-◌, ◌*◌, ◌/◌, ◌%◌, Bool, true, false, not, ◌&&◌, List, map, length, Some, None, Option, ◌==◌, nat_le}
+use Rattle.std.specs.Prelude.{ℕ, zero, suc, ◌+◌, ◌-◌, ◌*◌, ◌/◌, ◌%◌, not, ◌&&◌, List, map, length, None, Option, ◌==◌, nat_le}
 use Rattle.std.specs.List.{range_with_len}
 use Rattle.facts.specs.Checks.{unless, or_else}
 use Rattle.facts.specs.Field.{words, set_words, field_bytes}

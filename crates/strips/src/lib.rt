@@ -1,4 +1,6 @@
 // STRIPS tasks: what actions do to states, and the reader of task files.
+#![tactic(auto)]
+
 mod action;
 mod fault;
 pub mod laws;

@@ -4,7 +4,7 @@ ghost use Rattle.facts.specs.Field.{field_bytes};
 ghost use Rattle.facts.specs.Words.{subset};
 ghost use Rattle.std.specs.List.{range_with_len};
 ghost use Rattle.strips.specs.Holds.{Holds};
-ghost use Rattle.strips.specs.Records.{action as actionAt, action_count, action_fault, actions_fault, fault, field as field_at, record_bytes, task_fault};
+ghost use Rattle.strips.specs.Records.{action as action_at, action_count, action_fault, actions_fault, fault, field as field_at, record_bytes, task_fault};
 ghost use Rattle.strips.specs.Sound.{most_actions};
 
 use crate::action::Action;
@@ -49,7 +49,7 @@ fn read_field(bytes: &[u8], record: usize, field: u8) -> FactSet
 
 fn read_action(bytes: &[u8], record: usize) -> Action
     requires { record_bytes * «record» + record_bytes ≤ length bytes.now }
-    ensures { result ≡ actionAt bytes.now «record» }
+    ensures { result ≡ action_at bytes.now «record» }
 {
     Action {
         pre: read_field(bytes, record, 0),
@@ -118,7 +118,7 @@ fn check_task(bytes: &[u8]) -> Result<usize, Fault>
 fn fill_actions(bytes: &[u8], count: usize, actions: &mut Vec<Action>)
     requires record_bytes_in_bounds { record_bytes * count + record_bytes ≤ length bytes.now }
     requires count_bound { count ≤ vec_capacity actions.old }
-    ensures items { actions.new.items ≡ map (λ k. actionAt bytes.now (k + 1)) (range_with_len 0 count) }
+    ensures items { actions.new.items ≡ map (λ k. action_at bytes.now (k + 1)) (range_with_len 0 count) }
     ensures len { vec_len actions.new ≡ count }
     ensures capacity { vec_capacity actions.new ≡ vec_capacity actions.old }
 {

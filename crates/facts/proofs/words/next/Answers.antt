@@ -1,6 +1,5 @@
-use Rattle.std.proofs.Common.{ℕ, ◌+◌, ◌/◌, ◌^◌, ◌<◌, ◌≤◌, List, length, get_or, ⊎_elim, arith}
+use Rattle.std.proofs.Common.{ℕ, ◌/◌, ◌^◌, ◌<◌, List, get_or, ⊎_elim, arith}
 use Rattle.std.proofs.lemmas.Bool.{cases_lt}
-use Rattle.facts.specs.Words.{has}
 use Rattle.facts.proofs.Members.{next_fits, next_found, next_skips}
 use Rattle.facts.proofs.Sets.{has_past}
 use Rattle.facts.proofs.words.next.Goals as goal

@@ -6,7 +6,7 @@ use Rattle.facts.proofs.Bytes.{bytes_from, words_back}
 use Rattle.facts.proofs.words.write.Goals as goal
 
 pub loop-k-preserved : goal.loop-k-preserved
-loop-k-preserved c = filled_more _ _ _ _ _ c.loop-k.invariant (omega arith) c.byte-at.ensures
+loop-k-preserved c = filled_more _ _ _ _ _ c.loop-k.invariant (omega arith) c.byte_at.ensures
 
 pub returns : goal.returns
 returns c =
@@ -14,5 +14,5 @@ returns c =
     let e = bytes_from (8 * length ws) _ ws (omega arith) (λ k l. c.loop-k.invariant.1 k (omega arith)) in
     record {
       bytes = e;
-      read_back = ap (λ (bs : List ℕ). words (length ws) bs 0) e ∙ words_back ws (All-from_get_or (λ w. w < 2 ^ 64) ws 0 (λ k _. (c.type-inv.words k).fits));
+      read_back = ap (λ (bs : List ℕ). words (length ws) bs 0) e ∙ words_back ws (All-from_get_or (λ w. w < 2 ^ 64) ws 0 (λ k _. (c.type_inv.words k).fits));
     }

@@ -3,17 +3,17 @@ use Rattle.strips.specs.Records.{action_fault}
 use Rattle.strips.specs.Sound.{is_clash_free}
 use Rattle.strips.proofs.reader.check_action.Goals as goal
 
-pub returns-in-err-check-set : goal.returns-in-err-check-set
+pub returns-in_err-check_set : goal.returns-in_err-check_set
 unfolding action_fault is_clash_free
-returns-in-err-check-set c = grind arith
+returns-in_err-check_set c = grind arith
 
-pub returns-in-err-check-set-2 : goal.returns-in-err-check-set-2
+pub returns-in_err-check_set-2 : goal.returns-in_err-check_set-2
 unfolding action_fault is_clash_free
-returns-in-err-check-set-2 c = grind arith
+returns-in_err-check_set-2 c = grind arith
 
-pub returns-in-err-check-set-3 : goal.returns-in-err-check-set-3
+pub returns-in_err-check_set-3 : goal.returns-in_err-check_set-3
 unfolding action_fault is_clash_free
-returns-in-err-check-set-3 c = grind arith
+returns-in_err-check_set-3 c = grind arith
 
 pub returns-then-intersects : goal.returns-then-intersects
 unfolding action_fault is_clash_free

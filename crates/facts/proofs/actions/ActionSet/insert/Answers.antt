@@ -4,8 +4,8 @@ use Rattle.facts.specs.Words.{has, insert}
 use Rattle.facts.proofs.Insert.{has_insert}
 use Rattle.facts.proofs.actions.ActionSet.insert.Goals as goal
 
-pub returns-then-action-lt-ACTION-LIMIT : goal.returns-then-action-lt-ACTION-LIMIT
-returns-then-action-lt-ACTION-LIMIT c =
+pub returns-then-action-lt-ACTION_LIMIT : goal.returns-then-action-lt-ACTION_LIMIT
+returns-then-action-lt-ACTION_LIMIT c =
     let ws : List ℕ = c.args.self.now.words in
     let a : ℕ = c.args.action in
     let e = c.insert.ensures ∙ ap (insert ws) c.from.ensures in

@@ -1,4 +1,4 @@
-use Rattle.std.proofs.Common.{◌≡◌, ℕ, List, ap, ◌∙◌, arith}
+use Rattle.std.proofs.Common.{ℕ, List, ap, ◌∙◌, arith}
 use Rattle.facts.specs.Words.{has, insert}
 use Rattle.facts.proofs.Insert.{has_insert}
 use Rattle.facts.proofs.set.FactSet.insert.Goals as goal

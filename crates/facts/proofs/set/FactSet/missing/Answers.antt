@@ -1,4 +1,4 @@
-use Rattle.std.proofs.Common.{◌≡◌, ℕ, ◌-◌, ◌<◌, ◌≤◌, length, get_or, sym, ap, ◌∙◌, arith}
+use Rattle.std.proofs.Common.{ℕ, ◌-◌, ◌<◌, ◌≤◌, get_or, sym, ap, ◌∙◌, arith}
 use lib.Bits.{bit_and, and_lt}
 use lib.Count.{ones, ones-le}
 use Rattle.std.proofs.lemmas.List.{take_all}
@@ -10,8 +10,8 @@ use Rattle.facts.proofs.set.FactSet.missing.Goals as goal
 few : (a b : ℕ) → a < 18446744073709551616 → ones (bit_and a (18446744073709551615 - b)) ≤ 64
 few a b l = ones-le 64 (bit_and a (18446744073709551615 - b)) (and_lt 64 a (18446744073709551615 - b) (omega arith) (omega arith))
 
-pub overflow-add-count : goal.overflow-add-count
-overflow-add-count c = omega (arith, few (get_or c.args.self.now.words c.loop-i.i 0) (get_or c.args.state.now.words c.loop-i.i 0) (omega arith))
+pub overflow_add-count : goal.overflow_add-count
+overflow_add-count c = omega (arith, few (get_or c.args.self.now.words c.loop-i.i 0) (get_or c.args.state.now.words c.loop-i.i 0) (omega arith))
 
 pub loop-i-init : goal.loop-i-init
 loop-i-init c = (omega arith, size_none)

@@ -11,6 +11,6 @@ returns c =
     c.read.ensures ∙ ap (λ (n : ℕ). words n bs c.args.at) (ap length c.empty-set.ensures.words) in
     record {
       words = (omega arith, e);
-      members = λ f l. ap (λ (ws : List ℕ). has ws f) e ∙ has_words set_words bs c.args.at f (λ k. (c.type-inv.bytes k).fits) l;
-      written-again = ap (bytes field_bytes) e ∙ bytes_back set_words bs c.args.at (λ k. (c.type-inv.bytes k).fits) (omega arith);
+      members = λ f l. ap (λ (ws : List ℕ). has ws f) e ∙ has_words set_words bs c.args.at f (λ k. (c.type_inv.bytes k).fits) l;
+      written_again = ap (bytes field_bytes) e ∙ bytes_back set_words bs c.args.at (λ k. (c.type_inv.bytes k).fits) (omega arith);
     }

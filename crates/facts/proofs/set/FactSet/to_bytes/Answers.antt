@@ -1,5 +1,5 @@
 use Rattle.std.proofs.Common.{◌≡◌, ℕ, ◌*◌, List, length, sym, ap, ◌∙◌, arith}
-use Rattle.facts.specs.Field.{words, bytes, set_words, field_bytes}
+use Rattle.facts.specs.Field.{words, bytes, set_words}
 use Rattle.facts.proofs.set.FactSet.to_bytes.Goals as goal
 
 pub returns : goal.returns

@@ -11,6 +11,6 @@ returns c =
       steps = ap Steps c.missing.ensures;
       actions =
           λ k.
-          c.prefer-adding.ensures k
+          c.prefer_adding.ensures k
           ∙ ap (λ (w : List ℕ). useful (vec_items c.args.task.now.actions) c.args.state.now.words w k) c.difference.ensures.words;
     }
