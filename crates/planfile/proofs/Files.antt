@@ -1,13 +1,11 @@
 -- Lemmas on the file of a list of actions.
-use Rattle.std.proofs.Common.{◌≡◌, ℕ, zero, suc, ◌+◌, ◌-◌, ◌*◌, ◌/◌, ◌%◌, ◌<◌, ◌≤◌, Bool, true, false, List, [], ◌∷◌, ◌++◌, map, length, get_or, take, drop, sym, refl, ap, ◌∙◌, append_assoc, append-nil, arith, length-append, length-drop, length-take, get_or-drop, get_or-take, take-take, take_at, take-add, drop_at}
-use mathlib.Core.List.{append_cancel_left}
-use Rattle.std.specs.List.{range_with_len}
+use Rattle.std.proofs.Common.{◌≡◌, ℕ, zero, suc, ◌+◌, ◌-◌, ◌*◌, ◌/◌, ◌%◌, ◌<◌, ◌≤◌, List, [], ◌∷◌, ◌++◌, length, get_or, drop, sym, refl, ap, ◌∙◌, append_assoc, append-nil, arith, length-append, length-drop, length-take, get_or-drop, get_or-take, drop_at}
 use Rattle.std.proofs.lemmas.List.FromFn.{fill_by_all}
 use Rattle.std.proofs.lemmas.List.{ext_get_or, get_or-append_right}
 use Rattle.facts.specs.Field.{bytes, field_bytes, part}
 use Rattle.facts.proofs.Bytes.{length_bytes}
 use Rattle.strips.specs.declared.action.Action.{Action}
-use Rattle.strips.specs.Semantics.{State, Run, stop, step, result, applicable}
+use Rattle.strips.specs.Semantics.{State, Run, stop, step, result}
 use Rattle.strips.specs.Sound.{act}
 use Rattle.planfile.specs.File.{action_at, actions_of, entry, file, record_bytes, record_count, state_at}
 

@@ -1,5 +1,5 @@
 -- Lemmas on following a file record by record.
-use Rattle.std.proofs.Common.{◌≡◌, ℕ, zero, suc, ◌+◌, ◌-◌, ◌*◌, ◌/◌, ◌%◌, ◌<◌, ◌≤◌, Bool, true, false, List, [], ◌∷◌, ◌++◌, length, get_or, take, drop, sym, refl, ap, ◌∙◌, ⊎_elim, arith, length-append, length-take, take_all, take-take, take_at, take-add, drop_at}
+use Rattle.std.proofs.Common.{◌≡◌, ℕ, zero, suc, ◌+◌, ◌-◌, ◌*◌, ◌%◌, ◌<◌, ◌≤◌, true, false, List, [], ◌∷◌, ◌++◌, length, get_or, take, sym, refl, ap, ◌∙◌, ⊎_elim, arith, length-append, length-take, take_all, take-take, take_at, take-add}
 use mathlib.Core.List.{append_cancel_left}
 use Rattle.std.proofs.lemmas.List.{length_push, take_more}
 use Rattle.std.proofs.lemmas.Bool.{both_ways, cases_lt}
@@ -9,7 +9,7 @@ use Rattle.strips.specs.declared.action.Action.{Action}
 use Rattle.strips.specs.Semantics.{State, Run, stop, step, result, applicable, IsPlan}
 use Rattle.strips.specs.Sound.{act}
 use Rattle.strips.proofs.Runs.{run_more, runs_agree}
-use Rattle.planfile.specs.File.{action_at, actions_of, entry, file, record_bytes, record_count, state_at}
+use Rattle.planfile.specs.File.{action_at, actions_of, entry, file, record_bytes, record_count}
 use Rattle.planfile.specs.Laws.{PlanFile, RoundTrip, OneReading}
 use Rattle.planfile.specs.Reads.{Flawed, Follows, Right, Reads, good, bad, goals_false}
 use Rattle.planfile.specs.declared.answer.Flaw.{Flaw}

@@ -1,5 +1,5 @@
 -- What reading a plan file answers.
-use Rattle.std.specs.Prelude.{◌≡◌, ℕ, ◌*◌, ◌/◌, ◌%◌, ◌<◌, ◌≤◌, Bool, true, false, ◌&&◌, List, length, take, Option, ◌==◌, ◌≢◌, nat_le}
+use Rattle.std.specs.Prelude.{◌≡◌, ℕ, ◌*◌, ◌%◌, ◌<◌, true, false, ◌&&◌, List, length, take, Option, ◌==◌, ◌≢◌, nat_le}
 use Rattle.facts.specs.Checks.{or_else, unless}
 use Rattle.facts.specs.Field.{bytes, field_bytes}
 use Rattle.facts.specs.Words.{subset}

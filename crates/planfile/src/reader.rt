@@ -1,11 +1,9 @@
-ghost use Rattle.std.specs.Prelude.{◌≡◌, ◌+◌, ◌*◌, ◌%◌, ◌<◌, ◌≤◌, true, length, IfOk, IfErr, Decides, MatchOption};
+ghost use Rattle.std.specs.Prelude.{◌≡◌, ◌+◌, ◌*◌, ◌<◌, ◌≤◌, length, IfOk, IfErr, Decides, MatchOption};
 ghost use Rattle.facts.specs.Field.{bytes as bytes_of, field_bytes, part};
 ghost use Rattle.facts.specs.Checks.{fault_in};
-ghost use Rattle.planfile.specs.File.{action_at, entry, record_bytes, record_count};
+ghost use Rattle.planfile.specs.File.{action_at, record_bytes, record_count};
 ghost use Rattle.planfile.specs.Laws.{Only, PlanFile};
 ghost use Rattle.planfile.specs.Reads.{Flawed, read_refusal, Reads, Right};
-ghost use Rattle.strips.specs.Semantics.{applicable, result};
-ghost use Rattle.strips.specs.Sound.{act};
 ghost use Rattle.planfile.specs.declared.answer.Reading.TheVariants.{Good};
 
 use crate::answer::{Flaw, Reading, Refusal};
@@ -19,14 +17,14 @@ pub(crate) const MOST_RECORDS: usize = 4095;
 
 // How many records bytes have.
 pub fn record_count(bytes: &[u8]) -> usize
-    ensures* { λ r. ⌜ r ≡ record_count bytes.now ⌝ }
+    ensures { result ≡ record_count bytes.now }
 {
     bytes.len() / RECORD
 }
 
 // The action number of a record, where the bytes reach that far.
 pub fn action_number(bytes: &[u8], record: usize) -> Option<u16>
-    ensures* number { λ r. ⌜ MatchOption r (record_count bytes.now ≤ «record») (λ k. («record» < record_count bytes.now) × (k ≡ action_at bytes.now «record»)) ⌝ }
+    ensures number { MatchOption result (record_count bytes.now ≤ «record») (λ k. («record» < record_count bytes.now) × (k ≡ action_at bytes.now «record»)) }
 {
     if record >= record_count(bytes) {
         return None;
@@ -38,7 +36,7 @@ pub fn action_number(bytes: &[u8], record: usize) -> Option<u16>
 // Whether the field at `at` is that of the state.
 fn is_field(state: &FactSet, bytes: &[u8], at: usize) -> bool
     requires { at + field_bytes ≤ length bytes.now }
-    ensures* { λ r. ⌜ Decides r (part field_bytes bytes.now at ≡ bytes_of field_bytes state.now.words) ⌝ }
+    ensures { Decides result (part field_bytes bytes.now at ≡ bytes_of field_bytes state.now.words) }
 {
     let field = state.to_bytes();
     for k in 0..BYTES {
@@ -52,8 +50,8 @@ fn is_field(state: &FactSet, bytes: &[u8], at: usize) -> bool
 // The state after a record, or what is wrong with it.
 fn follow_record(task: &Task, state: &FactSet, bytes: &[u8], record: usize) -> Result<FactSet, Flaw>
     requires { record_bytes * «record» + record_bytes ≤ length bytes.now }
-    ensures* right { λ r. ⌜ IfOk r (λ t. Right task.now.actions.items bytes.now «record» state.now.words t.words) ⌝ }
-    ensures* flawed { λ r. ⌜ IfErr r (λ f. Flawed task.now.actions.items bytes.now «record» state.now.words f) ⌝ }
+    ensures right { IfOk result (λ t. Right task.now.actions.items bytes.now «record» state.now.words t.words) }
+    ensures flawed { IfErr result (λ f. Flawed task.now.actions.items bytes.now «record» state.now.words f) }
 {
     let at = RECORD * record;
     let next = step(task, state, u16::from_le_bytes([bytes[at], bytes[at + 1]]))?;
@@ -66,7 +64,7 @@ fn follow_record(task: &Task, state: &FactSet, bytes: &[u8], record: usize) -> R
 
 // What whole records are.
 fn follow(task: &Task, start: &FactSet, goal: &FactSet, bytes: &[u8]) -> Reading
-    ensures* { λ r. ⌜ Reads task.now.actions.items start.now.words goal.now.words bytes.now r ⌝ }
+    ensures { Reads task.now.actions.items start.now.words goal.now.words bytes.now result }
 {
     let mut state = *start;
     let count = record_count(bytes);
@@ -88,7 +86,7 @@ fn follow(task: &Task, start: &FactSet, goal: &FactSet, bytes: &[u8]) -> Reading
 
 // The first check that fails.
 fn check(task: &Task, start: &FactSet, goal: &FactSet, bytes: &[u8]) -> Result<(), Refusal>
-    ensures* { λ r. ⌜ fault_in r ≡ read_refusal task.now.facts.words start.now.words goal.now.words bytes.now ⌝ }
+    ensures { fault_in result ≡ read_refusal task.now.facts.words start.now.words goal.now.words bytes.now }
 {
     if bytes.len() % RECORD != 0 || record_count(bytes) > MOST_RECORDS {
         return Err(Refusal::FileSize);
@@ -101,11 +99,11 @@ fn check(task: &Task, start: &FactSet, goal: &FactSet, bytes: &[u8]) -> Result<(
 
 // Tells whether bytes are the file of a plan from the start to the goal, and where they first fail to be.
 pub fn read(task: &Task, start: &FactSet, goal: &FactSet, bytes: &[u8]) -> Result<Reading, Refusal>
-    ensures* refusal { λ r. ⌜ fault_in r ≡ read_refusal task.now.facts.words start.now.words goal.now.words bytes.now ⌝ }
-    ensures* reading { λ r. ⌜ IfOk r (λ a. Reads task.now.actions.items start.now.words goal.now.words bytes.now a) ⌝ }
-    ensures* only { λ r. ⌜ IfOk r (λ a. Only task.now.actions.items start.now.words goal.now.words bytes.now a) ⌝ }
-    ensures* good_is_plan { λ r. ⌜ IfOk r (λ a. a ≡ Good → PlanFile task.now.actions.items start.now.words goal.now.words bytes.now) ⌝ }
-    ensures* plan_is_good { λ r. ⌜ IfOk r (λ a. PlanFile task.now.actions.items start.now.words goal.now.words bytes.now → a ≡ Good) ⌝ }
+    ensures refusal { fault_in result ≡ read_refusal task.now.facts.words start.now.words goal.now.words bytes.now }
+    ensures reading { IfOk result (λ a. Reads task.now.actions.items start.now.words goal.now.words bytes.now a) }
+    ensures only { IfOk result (λ a. Only task.now.actions.items start.now.words goal.now.words bytes.now a) }
+    ensures good_is_plan { IfOk result (λ a. a ≡ Good → PlanFile task.now.actions.items start.now.words goal.now.words bytes.now) }
+    ensures plan_is_good { IfOk result (λ a. PlanFile task.now.actions.items start.now.words goal.now.words bytes.now → a ≡ Good) }
 {
     check(task, start, goal, bytes)?;
     Ok(follow(task, start, goal, bytes))

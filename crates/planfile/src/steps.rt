@@ -1,6 +1,6 @@
 ghost use Rattle.std.specs.Prelude.{◌≡◌, ◌<◌, true, length, IfOk, IfErr};
 ghost use Rattle.planfile.specs.Blocked.{Blocked};
-ghost use Rattle.strips.specs.Semantics.{applicable, result};
+ghost use Rattle.strips.specs.Semantics.{applicable, result as result_of};
 ghost use Rattle.strips.specs.Sound.{act};
 
 use crate::answer::Flaw;
@@ -9,8 +9,8 @@ use strips::Task;
 
 // The state after an action, or why it cannot be carried out.
 pub(crate) fn step(task: &Task, state: &FactSet, number: u16) -> Result<FactSet, Flaw>
-    ensures* next { λ r. ⌜ IfOk r (λ t. (number < length task.now.actions.items) × (applicable (act task.now.actions.items number) state.now.words ≡ true) × (t.words ≡ result (act task.now.actions.items number) state.now.words)) ⌝ }
-    ensures* blocked { λ r. ⌜ IfErr r (λ f. Blocked task.now.actions.items state.now.words number f) ⌝ }
+    ensures next { IfOk result (λ t. (number < length task.now.actions.items) × (applicable (act task.now.actions.items number) state.now.words ≡ true) × (t.words ≡ result_of (act task.now.actions.items number) state.now.words)) }
+    ensures blocked { IfErr result (λ f. Blocked task.now.actions.items state.now.words number f) }
 {
     let Some(action) = task.action(usize::from(number)) else {
         return Err(Flaw::NoSuchAction);

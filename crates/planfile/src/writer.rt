@@ -1,5 +1,5 @@
 ghost use Rattle.std.specs.Prelude.{◌≡◌, ◌+◌, ◌*◌, ◌≤◌, ◌++◌, length, take, drop, IfOk, IfErr, OnOk};
-ghost use Rattle.planfile.specs.File.{entry as entry_of, file as fileOf, record_bytes};
+ghost use Rattle.planfile.specs.File.{entry as entry_of, file as file_of, record_bytes};
 ghost use Rattle.planfile.specs.Laws.{RoundTrip};
 ghost use Rattle.planfile.specs.Writes.{Names, Writes};
 ghost use Rattle.strips.specs.Semantics.{Run, State};
@@ -41,7 +41,7 @@ fn check_run(task: &Task, start: &FactSet, plan: &[u16]) -> Result<(), Unwritten
 fn fill(task: &Task, start: &FactSet, plan: &[u16], out: &mut [u8])
     requires run { (t : State) × Run task.now.actions.items start.now.words plan.now t }
     requires plan_in_bounds { record_bytes * length plan.now ≤ length out.old }
-    ensures { out.new ≡ fileOf task.now.actions.items start.now.words plan.now ++ drop (record_bytes * length plan.now) out.old }
+    ensures { out.new ≡ file_of task.now.actions.items start.now.words plan.now ++ drop (record_bytes * length plan.now) out.old }
 {
     let mut state = *start;
     for (i, number) in plan.iter().enumerate() {

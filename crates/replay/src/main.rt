@@ -1,4 +1,6 @@
 // Carries out `yard.pln` on the task of `yard.tsk`, and prints what it did and how it ended.
+#![tactic(auto)]
+
 use std::fs;
 use transcript::Replay;
 

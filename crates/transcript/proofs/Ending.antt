@@ -1,5 +1,5 @@
 -- Lemmas that make an ending from what the code holds.
-use Rattle.std.proofs.Common.{◌≡◌, ℕ, List, [], ◌∷◌, ◌++◌, Some, None, sym, ◌∙◌}
+use Rattle.std.proofs.Common.{◌≡◌, ℕ, List, [], ◌∷◌, ◌++◌, Some, None, sym}
 use Rattle.strips.specs.declared.action.Action.{Action}
 use Rattle.strips.specs.declared.fault.Fault.{Fault}
 use Rattle.strips.specs.Numbers.{cause_number}

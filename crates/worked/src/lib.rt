@@ -1,4 +1,6 @@
 // Worked examples: as facts that the definitions compute, and as tests that run.
+#![tactic(auto)]
+
 mod three_lifts;
 
 pub use three_lifts::three_lifts_is_solved;

@@ -44,14 +44,15 @@ fn refused_files(rt: HostRuntime) -> Result<(), Fail> {
     replay.run(&[0; 95], &[0; 33]);
     assert!(rt;
         replay.lines()
-            == &[Line::Task {
+            == [Line::Task {
                 cause: 1,
                 record: 0,
             }]
+            .as_slice()
     );
     replay.run(&three_lifts(), &[0; 33]);
-    assert!(rt; replay.lines() == &[Line::Refused { number: 10 }]);
+    assert!(rt; replay.lines() == [Line::Refused { number: 10 }].as_slice());
     replay.run(&three_lifts(), &[]);
-    assert!(rt; replay.lines() == &[Line::Bad { record: 0, flaw: 4 }]);
+    assert!(rt; replay.lines() == [Line::Bad { record: 0, flaw: 4 }].as_slice());
     Ok(())
 }

@@ -12,11 +12,11 @@ returns-then-bytes-at c =
           absurd
           (c.if-bytes-at.true
           (sym (get_d_part field_bytes c.args.bytes.now c.args.at k (omega arith))
-          ∙ ap (λ (xs : List ℕ). get_or xs k 0) (e ∙ sym c.to-bytes-field.ensures.bytes))),
+          ∙ ap (λ (xs : List ℕ). get_or xs k 0) (e ∙ sym c.to_bytes-field.ensures.bytes))),
     )
 
 pub returns : goal.returns
 returns c = (
-  (λ _. part_is field_bytes c.args.bytes.now c.args.at c.to-bytes-field.result (omega arith) (omega arith) (λ k l. c.loop-k.invariant k (omega arith)) ∙ c.to-bytes-field.ensures.bytes),
+  (λ _. part_is field_bytes c.args.bytes.now c.args.at c.to_bytes-field.result (omega arith) (omega arith) (λ k l. c.loop-k.invariant k (omega arith)) ∙ c.to_bytes-field.ensures.bytes),
   λ _. refl,
 )

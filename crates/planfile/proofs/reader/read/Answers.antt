@@ -5,7 +5,7 @@ use Rattle.planfile.proofs.reader.read.Goals as goal
 
 pub returns : goal.returns
 returns c =
-    let none = c.in-ok-check.ensures in
+    let none = c.in_ok-check.ensures in
     record {
       refusal = none;
       reading = c.follow.ensures;

@@ -1,4 +1,4 @@
-use Rattle.std.proofs.Common.{◌≡◌, ℕ, ◌+◌, ◌-◌, ◌*◌, List, ◌++◌, length, get_or, take, drop, vec_items, refl, ap, ◌∙◌, arith}
+use Rattle.std.proofs.Common.{◌≡◌, ℕ, ◌+◌, ◌-◌, ◌*◌, List, ◌++◌, length, get_or, drop, vec_items, refl, ap, ◌∙◌, arith}
 use borrow.Rule.Slice.PartMut.{put_mid}
 use Rattle.std.proofs.lemmas.List.{take_all}
 use Rattle.strips.specs.Semantics.{stop}
@@ -13,7 +13,7 @@ loop-i-init c = (stop, refl)
 pub unreachable-requires : goal.unreachable-requires
 unreachable-requires c =
     let k : ℕ = get_or c.args.plan.now c.loop-i.i 0 in
-    let there = run_at _ _ _ _ c.args.plan.now c.loop-i.i c.requires.0.1 c.loop-i.invariant.0 (omega arith) in
+    let there = run_at _ _ _ _ c.args.plan.now c.loop-i.i c.requires.run.1 c.loop-i.invariant.0 (omega arith) in
     not_blocked _ _ k _ there.0 there.1 c.in-Err.ensures.blocked
 
 pub loop-i-preserved : goal.loop-i-preserved
@@ -22,8 +22,8 @@ loop-i-preserved c =
     let i : ℕ = c.loop-i.i in
     let z : record_bytes * i + record_bytes - record_bytes * i ≡ record_bytes = omega arith in (
       run_further _ _ _ _ c.args.plan.now i _ (omega arith) refl c.loop-i.invariant.0 n.0 n.1 n.2,
-      ap (λ (m : ℕ). put_mid (record_bytes * i) m c.loop-i.out c.copy-from-slice.new.self) z
-          ∙ ap (put_mid (record_bytes * i) record_bytes c.loop-i.out) (c.copy-from-slice.ensures.after ∙ c.entry.ensures)
+      ap (λ (m : ℕ). put_mid (record_bytes * i) m c.loop-i.out c.copy_from_slice.new.self) z
+          ∙ ap (put_mid (record_bytes * i) record_bytes c.loop-i.out) (c.copy_from_slice.ensures.after ∙ c.entry.ensures)
           ∙ file_further _ _ _ _ c.args.plan.now i _ c.loop-i.out c.args.out.now (omega arith) refl c.loop-i.invariant.0 n.2 c.loop-i.invariant.1,
     )
 
