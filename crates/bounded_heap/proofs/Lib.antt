@@ -1,2 +1,1 @@
-pub mod Permuted
 pub mod Heaps

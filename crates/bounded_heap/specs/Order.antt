@@ -5,20 +5,20 @@ use Rattle.std.specs.declared.cmp.Ordering.{Ordering}
 use Rattle.std.specs.BinaryHeap.{heap_items}
 use Rattle.std.specs.Slice.Heapsort.{IsHeapWithin}
 use Rattle.std.specs.Ordering.{is_lt, ordering_reverse}
-use Rattle.std.specs.List.{AllByRecursion as All}
+use Rattle.std.specs.List.{AllByRecursion}
 use Rattle.std.specs.declared.cmp.Reverse.{Reverse}
 use Rattle.std.specs.declared.collections.BinaryHeap.{BinaryHeap}
 
--- `order` is a total order, and `answers`, which `cmp` may give, has no other answer
-pub record TotalBy {X : Type 0} (answers : X → X → Ordering → Type 0) (order : X → X → Ordering) : Type 0 where
-  pub says : (x y : X) (r : Ordering) → answers x y r → r ≡ order x y
+-- `order` is a total order, and `answer`, which `cmp` gives, is no other
+pub record TotalBy {X : Type 0} (answer : X → X → Ordering) (order : X → X → Ordering) : Type 0 where
+  pub says : (x y : X) → answer x y ≡ order x y
   pub flip : (x y : X) → order x y ≡ ordering_reverse (order y x)
   pub trans : (x y z : X) → order x y ≡ Less → order y z ≡ Less → order x z ≡ Less
   pub alike : (x y z : X) → order x y ≡ Equal → order x z ≡ order y z
 
 -- none of xs comes before x
 abbrev pub Least : {X : Type 0} → (X → X → Ordering) → X → List X → Type 0
-Least order x xs = All (λ y. is_lt (order y x) ≡ false) xs
+Least order x xs = AllByRecursion (λ y. is_lt (order y x) ≡ false) xs
 
 -- the answer, if there is one, is the least
 abbrev pub LeastOf : {X : Type 0} → (X → X → Ordering) → List X → Option X → Type 0

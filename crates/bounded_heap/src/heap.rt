@@ -13,7 +13,7 @@ use std::collections::BinaryHeap;
 pub trait TotalOrder: Ord {
     ghost order: { Self → Self → AnOrdering };
 
-    ghost total: { TotalBy (λ x' y' r'. r' ≡ Self.Ord.cmp x' y') order };
+    ghost total: { TotalBy Self.cmp order };
 }
 
 // A ghost field cannot cite the items' order, so its owner keeps that the heap is layered.

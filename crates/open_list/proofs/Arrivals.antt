@@ -1,5 +1,5 @@
 -- The oldest entry of a queue stands in front.
-use Rattle.std.proofs.Common.{◌≡◌, ℕ, ◌+◌, ◌<◌, ◌≤◌, List, [], ◌∷◌, length, get_or, Some, None, deque_items, deque_len, Option, ap, ◌∙◌, arith, MatchOption}
+use Rattle.std.proofs.Common.{◌≡◌, ◌+◌, ◌<◌, ◌≤◌, List, [], ◌∷◌, length, get_or, Some, None, deque_items, deque_len, Option, ap, ◌∙◌, arith, MatchOption}
 use Rattle.std.specs.List.{remove}
 use Rattle.std.specs.declared.collections.VecDeque.{VecDeque}
 use Rattle.std.proofs.lemmas.List.{nil_from_length}

@@ -9,9 +9,9 @@ use std::alloc::{AllocError, Global};
 
 // Puts the entries until one is refused, and answers how many were put.
 pub fn fill<F: Frontier>(frontier: &mut F, entries: &[Entry]) -> usize
-    ensures count { result ≡ min (length entries.now) (room frontier.old - length (waiting frontier.old)) }
-    ensures change { IsPermutation (waiting frontier.old ++ take result entries.now) (waiting frontier.new) }
-    ensures same { room frontier.new ≡ room frontier.old }
+    ensures count { result ≡ min (length entries.now) (F.room frontier.old - length (F.waiting frontier.old)) }
+    ensures change { IsPermutation (F.waiting frontier.old ++ take result entries.now) (F.waiting frontier.new) }
+    ensures same { F.room frontier.new ≡ F.room frontier.old }
 {
     for (i, entry) in entries.iter().enumerate() {
         if let Err(_) = frontier.put(*entry) {
@@ -23,8 +23,8 @@ pub fn fill<F: Frontier>(frontier: &mut F, entries: &[Entry]) -> usize
 
 // Takes all entries, in the order in which they come.
 pub fn drain<F: Frontier>(heap: Global, frontier: &mut F) -> Result<Vec<Entry>, AllocError>
-    ensures change { Drained (waiting frontier.old) result (waiting frontier.new) }
-    ensures same { room frontier.new ≡ room frontier.old }
+    ensures change { Drained (F.waiting frontier.old) result (F.waiting frontier.new) }
+    ensures same { F.room frontier.new ≡ F.room frontier.old }
 {
     let mut out = Vec::with_capacity(heap, frontier.count())?;
     while let Some(entry) = frontier.take() {
@@ -39,8 +39,8 @@ pub fn refill<F: Frontier>(
     frontier: &mut F,
     entries: &[Entry],
 ) -> Result<Vec<Entry>, AllocError>
-    ensures change { Refilled (room frontier.old) entries.now result (waiting frontier.new) }
-    ensures same { room frontier.new ≡ room frontier.old }
+    ensures change { Refilled (F.room frontier.old) entries.now result (F.waiting frontier.new) }
+    ensures same { F.room frontier.new ≡ F.room frontier.old }
 {
     frontier.clear();
     fill(frontier, entries);

@@ -1,4 +1,6 @@
 // The open list of a best-first planner: entries that wait to be expanded.
+#![tactic(auto)]
+
 mod bulk;
 mod entry;
 mod frontier;

@@ -33,7 +33,7 @@ impl Frontier for Queue {
 
     ghost room = { λ q. q.places };
 
-    ghost few = { first_of (Prim.search rules, Prim.grind (arith, Self.row.coded.inj)) };
+    ghost few = { Prim.search rules };
 
     fn put(&mut self, entry: Entry) -> Result<(), Refusal>
         ensures change { Put self.old.places self.old.entries.items entry result self.new.entries.items }

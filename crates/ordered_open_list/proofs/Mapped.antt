@@ -1,11 +1,10 @@
 -- What waits, seen through a function.
-use Rattle.std.proofs.Common.{◌≡◌, ℕ, ◌<◌, ◌≤◌, List, ◌∷◌, map, length, Ordering, ap, ◌∙◌, arith}
+use Rattle.std.proofs.Common.{◌≡◌, ℕ, ◌<◌, List, ◌∷◌, map, length, Ordering, ap, ◌∙◌, arith}
 use lib.ListN.{length-map}
-use Rattle.std.specs.Ordering.{is_lt}
 use Rattle.std.specs.List.Sorted.{IsPermutation}
 use Rattle.std.proofs.ByRecursion.{All-map}
 use Rattle.bounded_heap.specs.Order.{Least}
-use Rattle.bounded_heap.proofs.Permuted.{shuffled_map}
+use Rattle.std.proofs.lemmas.List.Sorted.{IsPermutation-map}
 
 module _ {X Y : Type 0} (f : X → Y) where
   pub below_map : (room : ℕ) (w : List X) → length w < room → length (map f w) < room
@@ -18,10 +17,10 @@ module _ {X Y : Type 0} (f : X → Y) where
   still_map w w' h = ap (map f) h
 
   pub put_map : (w w' : List X) (x : X) → IsPermutation (x ∷ w) w' → IsPermutation (f x ∷ map f w) (map f w')
-  put_map w w' x s = shuffled_map f (x ∷ w) w' s
+  put_map w w' x s = IsPermutation-map f (x ∷ w) w' s
 
   pub take_map : (w w' : List X) (x : X) → IsPermutation w (x ∷ w') → IsPermutation (map f w) (f x ∷ map f w')
-  take_map w w' x s = shuffled_map f w (x ∷ w') s
+  take_map w w' x s = IsPermutation-map f w (x ∷ w') s
 
   pub least_map : (order : Y → Y → Ordering) (x : X) (w : List X) → Least (λ a b. order (f a) (f b)) x w → Least order (f x) (map f w)
   least_map order x w h = All-map _ f w h

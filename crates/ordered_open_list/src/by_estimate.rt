@@ -44,5 +44,5 @@ impl PartialOrd for ByEstimate {
 impl TotalOrder for ByEstimate {
     ghost order = { λ x y. by_estimate x.0 y.0 };
 
-    ghost total = { total_in_turn (λ x. greedy x.0) (λ x y r h. h) };
+    ghost total = { total_in_turn (λ x. greedy x.0) (λ _ _. refl) };
 }

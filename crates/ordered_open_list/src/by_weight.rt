@@ -53,5 +53,5 @@ impl PartialOrd for ByWeight {
 impl TotalOrder for ByWeight {
     ghost order = { λ x y. by_weight x.0 y.0 };
 
-    ghost total = { total_in_turn (λ x. weighted x.0) (λ x y r h. h) };
+    ghost total = { total_in_turn (λ x. weighted x.0) (λ _ _. refl) };
 }

@@ -21,7 +21,7 @@ pub struct GreedyFrontier {
 
 impl GreedyFrontier {
     pub fn new(heap: Global, places: usize) -> Result<GreedyFrontier, AllocError>
-        ensures made { IfOk result (λ f. (estimated f.heap ≡ []) × (f.heap.places ≡ places)) }
+        ensures made { IfOk result (λ f. (estimated f.heap.items ≡ []) × (f.heap.places ≡ places)) }
     {
         let heap = BoundedHeap::new(heap, places)?;
         Ok(GreedyFrontier { heap })
@@ -29,7 +29,7 @@ impl GreedyFrontier {
 }
 
 impl Frontier for GreedyFrontier {
-    ghost waiting = { λ f. estimated f.heap };
+    ghost waiting = { λ f. estimated f.heap.items };
 
     ghost room = { λ f. f.heap.places };
 
@@ -43,9 +43,9 @@ impl Frontier for GreedyFrontier {
     }
 
     fn take(&mut self) -> Option<Entry>
-        ensures change { Take (estimated self.old.heap) result (estimated self.new.heap) }
+        ensures change { Take (estimated self.old.heap.items) result (estimated self.new.heap.items) }
         ensures same { self.new.heap.places ≡ self.old.heap.places }
-        ensures least { LeastOf by_estimate (estimated self.old.heap) result }
+        ensures least { LeastOf by_estimate (estimated self.old.heap.items) result }
     {
         match self.heap.pop() {
             Some(ByEstimate(entry)) => Some(entry),

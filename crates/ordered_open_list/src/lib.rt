@@ -1,4 +1,6 @@
 // Open lists that give the least entry first, by weight or by estimate.
+#![tactic(auto)]
+
 mod by_estimate;
 mod by_weight;
 mod greedy;

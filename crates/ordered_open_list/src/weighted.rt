@@ -21,7 +21,7 @@ pub struct WeightedFrontier {
 
 impl WeightedFrontier {
     pub fn new(heap: Global, places: usize) -> Result<WeightedFrontier, AllocError>
-        ensures made { IfOk result (λ f. (weighed f.heap ≡ []) × (f.heap.places ≡ places)) }
+        ensures made { IfOk result (λ f. (weighed f.heap.items ≡ []) × (f.heap.places ≡ places)) }
     {
         let heap = BoundedHeap::new(heap, places)?;
         Ok(WeightedFrontier { heap })
@@ -29,7 +29,7 @@ impl WeightedFrontier {
 }
 
 impl Frontier for WeightedFrontier {
-    ghost waiting = { λ f. weighed f.heap };
+    ghost waiting = { λ f. weighed f.heap.items };
 
     ghost room = { λ f. f.heap.places };
 
@@ -43,9 +43,9 @@ impl Frontier for WeightedFrontier {
     }
 
     fn take(&mut self) -> Option<Entry>
-        ensures change { Take (weighed self.old.heap) result (weighed self.new.heap) }
+        ensures change { Take (weighed self.old.heap.items) result (weighed self.new.heap.items) }
         ensures same { self.new.heap.places ≡ self.old.heap.places }
-        ensures least { LeastOf by_weight (weighed self.old.heap) result }
+        ensures least { LeastOf by_weight (weighed self.old.heap.items) result }
     {
         match self.heap.pop() {
             Some(ByWeight(entry)) => Some(entry),

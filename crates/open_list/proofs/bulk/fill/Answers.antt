@@ -9,7 +9,7 @@ pub returns-in-Err : goal.returns-in-Err
 returns-in-Err g c = let p = c.in-Err.ensures in search (rules, count_full, filled_still)
 
 pub loop-i-preserved : goal.loop-i-preserved
-loop-i-preserved g c = filled_more _ _ _ _ _ _ _ _ _ c.loop-i-test.true c.loop-i.invariant c.in-default.ensures.change c.put.ensures.same
+loop-i-preserved g c = filled_more _ _ _ _ _ _ _ _ _ c.loop-i-test.true c.loop-i.invariant c.in_default.ensures.change c.put.ensures.same
 
 pub returns : goal.returns
 returns g c =
