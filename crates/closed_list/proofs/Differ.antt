@@ -1,5 +1,5 @@
 -- Rows whose states are all different.
-use Rattle.std.proofs.Common.{◌≡◌, ◌<◌, List, [], ◌∷◌, ◌++◌, length, sym, ap, ◌∙◌, arith}
+use Rattle.std.proofs.Common.{◌≡◌, List, [], ◌∷◌, ◌++◌, length, sym, ap, ◌∙◌, arith}
 use native.Mathlib.Decide.{dec_lt}
 use Rattle.closed_list.specs.declared.row.Row.{Row}
 use Rattle.closed_list.specs.Rows.{Absent, Different, row}

@@ -15,8 +15,8 @@ const NUMBERED: usize = 65536;
 // Enters the rows in order, passes over those whose state is known, and stops at the first that finds no place.
 // Answers how many were entered.
 pub fn enter_all<S: Store>(store: &mut S, offered: &[Row]) -> usize
-    ensures change { Entered (room store.old) (rows store.old) offered.now result (rows store.new) }
-    ensures same { room store.new ≡ room store.old }
+    ensures change { Entered (S.room store.old) (S.rows store.old) offered.now result (S.rows store.new) }
+    ensures same { S.room store.new ≡ S.room store.old }
 {
     let mut entered = 0;
     for row in offered {
@@ -33,7 +33,7 @@ pub fn enter_all<S: Store>(store: &mut S, offered: &[Row]) -> usize
 
 // Reads the rows back, as many as have a number.
 pub fn read_all<S: Store>(heap: Global, store: &S) -> Result<Vec<Row>, AllocError>
-    ensures made { IfOk result (λ v. v.items ≡ take numbered (rows store.now)) }
+    ensures made { IfOk result (λ v. v.items ≡ take numbered (S.rows store.now)) }
 {
     let count = store.count().min(NUMBERED);
     let mut out = Vec::with_capacity(heap, count)?;

@@ -1,4 +1,6 @@
 // The closed list of a planner: the states that were reached, each with the way to it.
+#![tactic(auto)]
+
 mod bulk;
 mod row;
 mod scanned;

@@ -3,7 +3,7 @@ ghost use Rattle.std.specs.Prelude.{◌≡◌, ◌^◌, ◌<◌, ◌≤◌, [], 
 ghost use Rattle.closed_list.specs.Rows.{Different};
 ghost use Rattle.std.proofs.Math.Logic.{∥∥₁_elim};
 ghost use Rattle.std.proofs.Math.Nat.{ℕ_set};
-ghost use Rattle.std.proofs.Common.{rules, arith};
+ghost use Rattle.std.proofs.Common.{rules};
 
 use crate::row::{Refusal, Row};
 use crate::store::Store;
@@ -35,7 +35,7 @@ impl Store for ScannedStore {
 
     ghost room = { λ s. s.places };
 
-    ghost few = { first_of (Prim.search rules, Prim.grind (arith, Self.row.coded.inj)) };
+    ghost few = { Prim.search rules };
 
     ghost different = { λ s i j il jl same. ∥∥₁_elim s.different (ℕ_set i j) (λ d. d i j il jl same) };
 

@@ -1,9 +1,9 @@
 ghost use Rattle.std.specs.Prelude.{◌≡◌, ℕ, ◌+◌, ◌^◌, ◌<◌, ◌≤◌, [], length, IfOk, None, vec_len, vec_capacity, slice_index_or};
 ghost use Rattle.closed_list.specs.Rows.{Different, Find};
-ghost use Rattle.hashed_list.specs.Buckets.{Heads, Links, bucket as bucketOf};
+ghost use Rattle.hashed_list.specs.Buckets.{Heads, Links, bucket as state_bucket};
 ghost use Rattle.std.proofs.Math.Logic.{∥∥₁_elim};
 ghost use Rattle.std.proofs.Math.Nat.{ℕ_set};
-ghost use Rattle.std.proofs.Common.{rules, arith};
+ghost use Rattle.std.proofs.Common.{rules};
 
 use closed_list::{Refusal, Row, Store};
 use facts::FactSet;
@@ -51,7 +51,7 @@ impl HashedStore {
 
     // The row of a state among those of its bucket, from the latest on.
     fn find_in(&self, bucket: usize, state: &FactSet) -> Option<u16>
-        requires { bucket ≡ bucketOf self.now.mask state.now.words }
+        requires { bucket ≡ state_bucket self.now.mask state.now.words }
         ensures found { Find self.now.table.items state.now.words result }
     {
         let mut at = self.heads[bucket];
@@ -67,7 +67,7 @@ impl HashedStore {
 }
 
 fn bucket(state: &FactSet, mask: usize) -> usize
-    ensures value { result ≡ bucketOf mask state.now.words }
+    ensures value { result ≡ state_bucket mask state.now.words }
     ensures within { result ≤ mask }
 {
     state.digest() as usize & mask
@@ -90,7 +90,7 @@ impl Store for HashedStore {
 
     ghost room = { λ s. s.places };
 
-    ghost few = { first_of (Prim.search rules, Prim.grind (arith, Self.row.coded.inj)) };
+    ghost few = { Prim.search rules };
 
     ghost different = { λ s i j il jl same. ∥∥₁_elim s.different (ℕ_set i j) (λ d. d i j il jl same) };
 

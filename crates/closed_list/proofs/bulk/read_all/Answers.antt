@@ -6,7 +6,7 @@ use Rattle.closed_list.proofs.bulk.read_all.Goals as goal
 pub loop-number-preserved : goal.loop-number-preserved
 loop-number-preserved g c =
     let lt : c.loop-number.number < length (g.S.Store.rows c.args.store.now) = omega (arith, c.loop-number-test.true, c.min-count.ensures, c.count.ensures.value) in
-    (read_more _ _ _ _ _ _ _ lt c.loop-number.invariant.0 c.read.ensures.filled c.push-reserved.ensures.items, omega (arith, c.push-reserved.ensures.capacity))
+    (read_more _ _ _ _ _ _ _ lt c.loop-number.invariant.0 c.read.ensures.filled c.push_reserved.ensures.items, omega (arith, c.push_reserved.ensures.capacity))
 
 pub returns : goal.returns
 unfolding numbered

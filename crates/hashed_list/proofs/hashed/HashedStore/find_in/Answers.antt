@@ -1,4 +1,4 @@
-use Rattle.std.proofs.Common.{◌≡◌, ◌+◌, ◌<◌, length, vec_items, refl, ap, arith, rules}
+use Rattle.std.proofs.Common.{◌≡◌, ◌+◌, length, vec_items, refl, ap, arith, rules}
 use Rattle.hashed_list.proofs.Chains.{bucket_within, standing_at, standing_found, standing_first, standing_next, standing_lower, standing_none}
 use Rattle.hashed_list.proofs.hashed.HashedStore.find_in.Goals as goal
 
@@ -15,7 +15,7 @@ pub index-requires : goal.index-requires
 index-requires c = omega (arith, standing_at _ _ _ _ _ c.loop-at.invariant c.in-Some.is)
 
 pub returns-then-eq : goal.returns-then-eq
-returns-then-eq c = let same = ap (λ z. z.words) (c.if-eq.ensures.0 refl) in search (rules, standing_found)
+returns-then-eq c = let same = ap (λ z. z.words) (c.if-eq.ensures.same.0 refl) in search (rules, standing_found)
 
 pub index-at-requires-in-Some : goal.index-at-requires-in-Some
 index-at-requires-in-Some c = omega (arith, standing_at _ _ _ _ _ c.loop-at.invariant c.in-Some.is)

@@ -1,19 +1,12 @@
-use Rattle.std.proofs.Common.{arith, rules}
 use Rattle.closed_list.proofs.Differ.{different_nil}
 use Rattle.hashed_list.proofs.Chains.{heads_none, links_none}
 use Rattle.hashed_list.proofs.hashed.HashedStoreStore.clear.Goals as goal
 
-pub invariant-of-self : goal.invariant-of-self
-invariant-of-self c = (
-  omega arith,
-  (
-    (omega arith, omega arith),
-    (
-      omega arith,
-      (
-        omega arith,
-        (omega arith, (let none = c.reset.ensures.none in search (rules, heads_none), (search (rules, links_none), (∣ search (rules, different_nil) ∣₁, tt)))),
-      ),
-    ),
-  ),
-)
+pub invariant_of-self-clause-latest_of_bucket : goal.invariant_of-self-clause-latest_of_bucket
+invariant_of-self-clause-latest_of_bucket c = heads_none _ _ _ c.clear.ensures.items c.reset.ensures.none
+
+pub invariant_of-self-clause-latest_before : goal.invariant_of-self-clause-latest_before
+invariant_of-self-clause-latest_before c = links_none _ _ _ c.clear.ensures.items
+
+pub invariant_of-self-clause-different : goal.invariant_of-self-clause-different
+invariant_of-self-clause-different c = ∣ different_nil _ c.clear.ensures.items ∣₁

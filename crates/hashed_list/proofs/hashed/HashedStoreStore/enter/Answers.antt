@@ -1,37 +1,26 @@
-use Rattle.std.proofs.Common.{◌≡◌, ℕ, ◌+◌, length, vec_items, sym, subst, arith, rules}
-use mathlib.Core.Logic.{∥∥₁_elim}
+use Rattle.std.proofs.Common.{◌≡◌, ◌+◌, length, vec_items, sym, subst, arith}
+use Rattle.std.proofs.Math.Logic.{∥∥₁_elim}
 use Rattle.closed_list.specs.Rows.{Different}
 use Rattle.closed_list.proofs.Differ.{different_push}
 use Rattle.hashed_list.proofs.Chains.{heads_push, links_push}
 use Rattle.hashed_list.proofs.hashed.HashedStoreStore.enter.Goals as goal
 
-pub invariant-of-self-2 : goal.invariant-of-self-2
-invariant-of-self-2 c =
+pub invariant_of-self-2-clause-latest_of_bucket : goal.invariant_of-self-2-clause-latest_of_bucket
+invariant_of-self-2-clause-latest_of_bucket c =
     let self = c.args.self.now in
-    let p = c.push-reserved.ensures in
-    let q = c.push-reserved-2.ensures in
+    let items = c.push_reserved.ensures.items in
+    let is = c.bucket-bucket.ensures.value in
+    let wide : length (vec_items self.heads) ≡ self.mask + 1 = omega arith in
+    heads_push _ _ _ _ _ _ _ items self.latest_of_bucket is (omega arith) wide
+
+pub invariant_of-self-2-clause-latest_before : goal.invariant_of-self-2-clause-latest_before
+invariant_of-self-2-clause-latest_before c =
+    let self = c.args.self.now in
     let is = c.bucket-bucket.ensures.value in
     let wide : length (vec_items self.heads) ≡ self.mask + 1 = omega arith in
     let long : length (vec_items self.earlier) ≡ length (vec_items self.table) = omega arith in
-    let count : c.len-number.result ≡ length (vec_items self.table) = omega arith in (
-      omega (arith, p.len),
-      (
-        (omega (arith, p.capacity), omega (arith, q.capacity)),
-        (
-          self.numbered,
-          (
-            omega (arith, p.len, q.len),
-            (
-              self.wide,
-              (
-                search (rules, heads_push),
-                (
-                  links_push _ _ _ _ _ _ _ _ _ p.items q.items self.latest_of_bucket self.latest_before is wide c.index.ensures long,
-                  (∥∥₁_elim self.different squash₁ (λ d. ∣ subst Different (sym p.items) (different_push _ c.args.row d c.in-default.ensures.found) ∣₁), tt),
-                ),
-              ),
-            ),
-          ),
-        ),
-      ),
-    )
+    links_push _ _ _ _ _ _ _ _ _ c.push_reserved.ensures.items c.push_reserved-2.ensures.items self.latest_of_bucket self.latest_before is wide c.index.ensures long
+
+pub invariant_of-self-2-clause-different : goal.invariant_of-self-2-clause-different
+invariant_of-self-2-clause-different c =
+    ∥∥₁_elim c.args.self.now.different squash₁ (λ d. ∣ subst Different (sym c.push_reserved.ensures.items) (different_push _ c.args.row d c.in_default.ensures.found) ∣₁)
