@@ -1,4 +1,6 @@
 // Tells what each estimator says of the task of `yard.tsk`, and again after each action that standard input names.
+#![tactic(auto)]
+
 use facts::FactSet;
 use heuristic::{Estimator, GoalCount};
 use inspection::{Move, describe, line_end, make_move};

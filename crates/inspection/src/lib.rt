@@ -1,4 +1,6 @@
 // What `inspect` says: a line for each estimator in a state, and what comes of each line of input.
+#![tactic(auto)]
+
 mod command;
 mod lines;
 mod moves;

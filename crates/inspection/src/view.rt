@@ -24,10 +24,7 @@ fn add(text: &mut String, set: &ActionSet, k: u16) -> Result<(), AllocError>
     if !set.contains(k) {
         return Ok(());
     }
-    match write!(text, " {k}") {
-        Ok(()) => Ok(()),
-        Err(_) => Err(AllocError),
-    }
+    write!(text, " {k}")
 }
 
 // Adds the numbers below `count` that are in the set, rising.

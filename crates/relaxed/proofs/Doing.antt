@@ -1,5 +1,5 @@
 -- Lemmas on actions that have nothing left to bring.
-use Rattle.std.proofs.Common.{◌≡◌, ℕ, Bool, true, false, not, ◌&&◌, ◌||◌, eqb, ltb, List, sym, ap, ◌∙◌, ⊎_elim}
+use Rattle.std.proofs.Common.{◌≡◌, ℕ, true, false, not, ◌&&◌, ◌||◌, eqb, ltb, List, sym, ap, ◌∙◌, ⊎_elim}
 use Rattle.std.proofs.lemmas.Bool.{and_left, and_parts, and_right, both_ways, eqb-true, or_cases}
 use Rattle.facts.specs.Words.{has, subset, union}
 use Rattle.facts.proofs.Sets.{subset_trans}

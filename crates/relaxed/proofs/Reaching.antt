@@ -1,25 +1,26 @@
 -- What the layers reach, a list of actions reaches where deletes are ignored.
-use Rattle.std.proofs.Common.{◌≡◌, ℕ, zero, suc, ◌+◌, ◌<◌, ◌≤◌, Bool, true, false, cond, not, ◌&&◌, ◌||◌, ltb, List, [], ◌∷◌, ◌++◌, map, length, sym, refl, ap, ◌∙◌, ⊎_elim, arith}
+use Rattle.std.proofs.Common.{◌≡◌, ℕ, zero, suc, ◌<◌, ◌≤◌, Bool, true, false, cond, not, ◌&&◌, List, [], ◌∷◌, ◌++◌, map, length, sym, refl, ap, ◌∙◌, ⊎_elim, arith}
 use lib.ListN.{length-map}
-use Rattle.std.proofs.lemmas.Bool.{and_from, and_left, and_parts, cases_Bool, or_cases, or_left, or_right}
+use Rattle.std.proofs.lemmas.Bool.{and_from, and_parts, or_cases, or_left, or_right}
 use Rattle.facts.specs.Words.{has, subset, union, without}
 use Rattle.facts.proofs.Sets.{has_past, has_union, has_without, subset_has}
 use Rattle.strips.specs.declared.action.Action.{Action}
-use Rattle.strips.specs.Semantics.{State, applicable, result, Run, stop, step, IsPlan}
-use Rattle.strips.specs.Sound.{act, AllWithin, within}
-use Rattle.strips.proofs.Runs.{result_within, run_more, runs_join}
+use Rattle.strips.specs.Semantics.{State, applicable, result, Run, stop}
+use Rattle.strips.specs.Sound.{act, within}
+use Rattle.strips.proofs.Runs.{result_within, run_more}
 use Rattle.heuristic.specs.declared.estimate.Estimate.{Estimate}
 use Rattle.heuristic.specs.declared.estimate.Estimate.TheVariants.{Steps, Never}
 use Rattle.heuristic.specs.Laws.{Asked}
 use Rattle.heuristic.specs.Relaxation.{IsRelaxedPlan, without_deletes}
 use Rattle.heuristic.proofs.Relaxing.{act_relaxed}
-use Rattle.relaxed.specs.Layers.{brings, first, grown, layer, with_adds}
+use Rattle.relaxed.specs.Layers.{brings, grown, layer, with_adds}
 use Rattle.relaxed.specs.Laws.{AtMostFacts, NeverIsNone, NoneIsNever}
 use Rattle.relaxed.specs.Plan.{last, relaxed_plan}
 use Rattle.relaxed.specs.Amounts.{few_actions}
-use Rattle.relaxed.specs.Answering.{last_passes, plan_never}
-use Rattle.relaxed.specs.Building.{grown_keeps, layer_none, layer_suc}
-use Rattle.relaxed.specs.Firsts.{first_le, first_same}
+use Rattle.relaxed.specs.Growing.{last_passes, grown_keeps, layer_none, layer_suc}
+use Rattle.relaxed.proofs.Answering.{plan_never}
+use Rattle.relaxed.specs.Firsts.{first_le}
+use Rattle.relaxed.proofs.Building.{first_same}
 use Rattle.relaxed.specs.Lawful.{never_is, no_plan, pre_within, steps_are, subset_below}
 
 -- layers do not see deletes

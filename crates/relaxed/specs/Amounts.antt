@@ -1,14 +1,14 @@
 -- A relaxed plan has at most 256 actions.
-use Rattle.std.specs.Prelude.{◌≡◌, ℕ, zero, suc, ◌+◌, ◌-◌, ◌<◌, ◌≤◌, Bool, true, false, cond, not, ◌&&◌, ◌||◌, ◌⊎◌, List, [], length, ◌≢◌, refl}
-use Rattle.std.proofs.Common.{sym, ap, subst, ◌∙◌, arith, ⊎_elim, inl, inr}
+use Rattle.std.specs.Prelude.{◌≡◌, ℕ, zero, suc, ◌+◌, ◌-◌, ◌<◌, ◌≤◌, Bool, true, false, cond, not, ◌&&◌, ◌⊎◌, List, length, ◌≢◌, refl}
+use Rattle.std.proofs.Common.{ap, subst, ◌∙◌, arith, ⊎_elim, inl, inr}
 use Rattle.std.proofs.lemmas.Bool.{both_ways, cases_lt, cases_eq}
 use Rattle.facts.specs.Words.{has}
 use Rattle.strips.specs.declared.action.Action.{Action}
 use Rattle.strips.specs.Semantics.{State}
 use Rattle.strips.specs.Sound.{act}
-use Rattle.relaxed.specs.Layers.{layer, new_fact, grown}
-use Rattle.relaxed.specs.Extract.{Marks, adder, chosen, visit, pass, lower, treated}
-use Rattle.relaxed.specs.Building.{layer_suc, grown_keeps}
+use Rattle.relaxed.specs.Layers.{layer, new_fact}
+use Rattle.relaxed.specs.Extract.{Marks, adder, chosen, pass, lower, treated}
+use Rattle.relaxed.specs.Growing.{layer_suc, grown_keeps}
 
 -- how many numbers below n pass
 pub amount : (ℕ → Bool) → ℕ → ℕ

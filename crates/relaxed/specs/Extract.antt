@@ -1,10 +1,10 @@
 -- Extraction of a relaxed plan from the layers.
-use Rattle.std.specs.Prelude.{ℕ, zero, suc, ◌+◌, ◌-◌, Bool, true, false, cond, not, ◌&&◌, List, [], length}
+use Rattle.std.specs.Prelude.{ℕ, zero, suc, ◌+◌, ◌-◌, cond, not, ◌&&◌, List, [], length}
 use Rattle.facts.specs.Words.{has, union, without}
 use Rattle.strips.specs.declared.action.Action.{Action}
 use Rattle.strips.specs.Semantics.{State}
 use Rattle.strips.specs.Sound.{act}
-use Rattle.relaxed.specs.Layers.{layer, first, new_fact, new_action}
+use Rattle.relaxed.specs.Layers.{first, new_fact, new_action}
 
 -- the lowest-numbered action of level i that adds fact f
 abbrev pub adder : List Action → State → ℕ → ℕ → ℕ

@@ -1,6 +1,6 @@
 -- The least number that passes.
-use Rattle.std.specs.Prelude.{◌≡◌, ℕ, zero, suc, ◌+◌, ◌<◌, ◌≤◌, Bool, true, false, cond, nat_lt, refl}
-use Rattle.std.proofs.Common.{sym, ap, ◌∙◌, ⊎_elim, arith}
+use Rattle.std.specs.Prelude.{◌≡◌, ℕ, zero, suc, ◌<◌, ◌≤◌, Bool, true, false, cond, refl}
+use Rattle.std.proofs.Common.{ap, ◌∙◌, ⊎_elim, arith}
 use Rattle.std.proofs.lemmas.Bool.{cases_lt, cases_Bool, lt-ltb, le-ltb}
 use Rattle.relaxed.specs.Layers.{first}
 
@@ -31,13 +31,6 @@ first_at p (suc n) i l h e =
     (λ m. let r = first_at p n i m h e in first_keep p n (omega arith) ∙ r)
     (λ m. let q : n ≡ i = omega arith in first_take p n (first_none p n (λ j k. h j (omega arith))) (ap p q ∙ e) ∙ q)
     (cases_lt i n)
-
-pub first_same : (p q : ℕ → Bool) (n : ℕ) → ((k : ℕ) → k < n → p k ≡ q k) → first p n ≡ first q n
-unfolding first
-first_same p q zero h = refl
-first_same p q (suc n) h =
-    let r = first_same p q n (λ k l. h k (omega arith)) in
-    ap (λ (x : ℕ). cond (nat_lt x n) x (cond (p n) n (suc n))) r ∙ ap (λ (b : Bool). cond (nat_lt (first q n) n) (first q n) (cond b n (suc n))) (h n (omega arith))
 
 pub first_le : (p : ℕ → Bool) (n : ℕ) → first p n ≤ n
 first_le p zero = let e = first_zero p in omega arith

@@ -1,28 +1,24 @@
 -- The relaxed plan keeps the laws.
-use Rattle.std.specs.Prelude.{◌≡◌, ℕ, zero, suc, ◌+◌, ◌-◌, ◌*◌, ◌/◌, ◌%◌, ◌^◌, ◌<◌, ◌≤◌, Bool, true, false, cond, not, ◌&&◌, ◌||◌, ◌⊎◌, List, [], ◌∷◌, length, ◌≢◌, nat_eq, nat_lt, slice_index, refl}
-use Rattle.std.proofs.Common.{sym, ap, subst, ◌∙◌, ⊎_elim, inl, inr, arith, add-one}
+use Rattle.std.specs.Prelude.{◌≡◌, ℕ, zero, suc, ◌+◌, ◌-◌, ◌/◌, ◌%◌, ◌^◌, ◌<◌, ◌≤◌, Bool, true, false, cond, not, ◌&&◌, List, [], length, ◌≢◌, nat_eq, nat_lt, slice_index, refl}
+use Rattle.std.proofs.Common.{sym, ap, ◌∙◌, ⊎_elim, arith}
 use Rattle.std.proofs.Math.Nat.{zero-div}
-use Rattle.std.proofs.lemmas.List.{get_or_default}
 use Rattle.std.proofs.lemmas.Bool.{cases_Bool, cases_lt, and_parts, and_from, both_ways, or_cases, not_from_false, ltb-true, ltb-false, lt-ltb}
-use Rattle.facts.specs.Words.{has, subset, union, without}
+use Rattle.facts.specs.Words.{has, subset, without}
 use Rattle.facts.proofs.Sets.{subset_has, subset_from, word_from_has, has_union, has_without, has_past}
 use Rattle.strips.specs.declared.action.Action.{Action}
 use Rattle.strips.specs.Semantics.{State, applicable, result, Run, stop, step, IsPlan}
-use Rattle.strips.specs.Sound.{within, AllWithin}
-use Rattle.strips.proofs.Runs.{runs_stay, result_within}
-use Rattle.heuristic.specs.declared.estimate.Estimate.{Estimate}
+use Rattle.strips.specs.Sound.{within, act}
+use Rattle.strips.proofs.Runs.{result_within}
 use Rattle.heuristic.specs.declared.estimate.Estimate.TheVariants.{Steps, Never}
-use Rattle.strips.specs.Sound.{act}
 use Rattle.heuristic.specs.Useful.{useful}
 use Rattle.heuristic.specs.Laws.{Laws, Asked}
 use Rattle.heuristic.specs.Words.{within_small, within_few}
-use Rattle.relaxed.specs.Layers.{layer, new_fact, grown, first}
-use Rattle.relaxed.specs.Extract.{Marks, adder, chosen, visit, pass, lower, treated, extracted}
+use Rattle.relaxed.specs.Layers.{layer, new_fact}
+use Rattle.relaxed.specs.Extract.{Marks, adder, chosen, pass, lower, treated, extracted}
 use Rattle.relaxed.specs.Plan.{last, relaxed_plan, helpful}
-use Rattle.relaxed.specs.Firsts.{first_before, first_passes, first_le}
-use Rattle.relaxed.specs.Building.{layer_none, layer_suc, grown_has, last_at}
+use Rattle.relaxed.specs.Firsts.{first_before}
+use Rattle.relaxed.specs.Growing.{layer_none, layer_suc, grown_has, last_at, last_passes}
 use Rattle.relaxed.specs.Amounts.{few_actions, amount, amount_none, repeats, lacking, grows}
-use Rattle.relaxed.specs.Answering.{plan_steps, last_passes}
 
 -- sets within at most 256 facts
 no_word : (ws : State) (f : ℕ) → slice_index ws (f / 64) ≡ 0 → has ws f ≡ false
@@ -41,6 +37,12 @@ steps_same m n e = cc
 
 never_steps : (n : ℕ) → Never ≢ Steps n
 never_steps n e = let z : ◌≡◌ {A = ℕ} 0 1 = cc in omega arith
+
+pub plan_steps : (acts : List Action) (goal s : State) (top r : ℕ) → last acts goal s ≡ top → top ≤ 256 → r ≡ (extracted acts s goal top).count → Steps r ≡ relaxed_plan acts goal s
+unfolding relaxed_plan
+plan_steps acts goal s top r e l h =
+    ap Steps h ∙ sym (ap (λ (b : Bool). cond b (Steps (extracted acts s goal top).count) Never) (lt-ltb top 257 (omega arith)))
+    ∙ sym (ap (λ (t : ℕ). cond (nat_lt t 257) (Steps (extracted acts s goal t).count) Never) e)
 
 -- the two cases of the estimate
 pub steps_are : (acts : List Action) (goal s : State) (n : ℕ) → relaxed_plan acts goal s ≡ Steps n → (last acts goal s < 257) × ((extracted acts s goal (last acts goal s)).count ≡ n)
@@ -96,8 +98,8 @@ no_plan facts acts goal s q e ks plan =
     let l = x.1.0 in
     let far = never_is acts goal s e in
     let none = amount_none (new_fact acts s i) 256 x.1.1 in
-    let in-layer = stays facts acts goal s s plan.0 i ks q none q.state_in (λ f m y. layer_grows acts s i f y) plan.1 in
-    let all = subset_below facts goal (layer acts s i) q.few q.small q.goal_in (λ f m y. in-layer f m (subset_has goal plan.0 plan.2 f y)) in
+    let in_layer = stays facts acts goal s s plan.0 i ks q none q.state_in (λ f m y. layer_grows acts s i f y) plan.1 in
+    let all = subset_below facts goal (layer acts s i) q.few q.small q.goal_in (λ f m y. in_layer f m (subset_has goal plan.0 plan.2 f y)) in
     both_ways (subset goal (layer acts s i)) (last_before acts goal s i (omega arith)) all)
     (λ h. too_many (amount (lacking acts s 257) 256) h)
     (repeats acts s 257)

@@ -1,5 +1,5 @@
 -- The layers of the relaxed planning graph, and the levels of facts and actions.
-use Rattle.std.specs.Prelude.{ℕ, zero, suc, ◌+◌, Bool, true, false, cond, not, ◌&&◌, List, length, nat_lt}
+use Rattle.std.specs.Prelude.{ℕ, zero, suc, Bool, cond, not, ◌&&◌, List, length, nat_lt}
 use Rattle.facts.specs.Words.{has, union, subset}
 use Rattle.strips.specs.declared.action.Action.{Action}
 use Rattle.strips.specs.Semantics.{State, applicable}

@@ -1,5 +1,5 @@
 -- What the code does to one fact's record.
-use Rattle.std.specs.Prelude.{◌≡◌, ℕ, zero, suc, ◌+◌, ◌<◌, Bool, true, false, cond, not, ◌&&◌, ◌||◌, List, length, ◌==◌, nat_lt, slice_index_or}
+use Rattle.std.specs.Prelude.{◌≡◌, ℕ, zero, suc, ◌+◌, ◌<◌, Bool, false, cond, ◌&&◌, ◌||◌, List, ◌==◌, nat_lt, slice_index_or}
 use Rattle.facts.specs.Words.{has}
 use Rattle.strips.specs.declared.action.Action.{Action}
 use Rattle.strips.specs.Semantics.{State}
@@ -19,7 +19,7 @@ pub record Each (g : ℕ → FactNode → FactNode) (ns ns' : List FactNode) : T
 
 -- at the start
 abbrev pub opened_as : Bool → Bool → FactNode
-opened_as is-goal is_true = record { level = cond is_true 0 65535; marked = 65535; adder = 0; wanted = is-goal }
+opened_as is_goal is_true = record { level = cond is_true 0 65535; marked = 65535; adder = 0; wanted = is_goal }
 
 abbrev pub opened : State → State → ℕ → FactNode → FactNode
 opened goal s f n = opened_as (has goal f) (has s f)

@@ -1,5 +1,5 @@
 -- The relaxed plan estimate.
-use Rattle.std.specs.Prelude.{ℕ, zero, suc, ◌+◌, Bool, true, false, cond, not, ◌&&◌, ◌||◌, List, length, nat_lt}
+use Rattle.std.specs.Prelude.{ℕ, Bool, cond, ◌&&◌, List, nat_lt}
 use Rattle.facts.specs.Words.{common, subset, without}
 use Rattle.strips.specs.declared.action.Action.{Action}
 use Rattle.strips.specs.Semantics.{State}
@@ -7,7 +7,7 @@ use Rattle.heuristic.specs.declared.estimate.Estimate.{Estimate}
 use Rattle.heuristic.specs.declared.estimate.Estimate.TheVariants.{Steps, Never}
 use Rattle.heuristic.specs.Useful.{useful}
 use Rattle.relaxed.specs.Layers.{layer, first}
-use Rattle.relaxed.specs.Extract.{Marks, extracted}
+use Rattle.relaxed.specs.Extract.{extracted}
 
 -- the first layer that has all goals, and 257 where none has: layers grow by a fact until they repeat, so layer 256 has all that any has
 unfoldable pub last : List Action → State → State → ℕ

@@ -1,3 +1,6 @@
-pub mod Walks
+pub mod Sums
+pub mod Greatest
 pub mod Sweeps
+pub mod Lawful
+pub mod Walks
 pub mod Preferred

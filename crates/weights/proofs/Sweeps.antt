@@ -1,5 +1,5 @@
 -- Lemmas on sweeps: the actions lower one after the other, in place.
-use Rattle.std.proofs.Common.{◌≡◌, ℕ, zero, suc, ◌+◌, ◌<◌, ◌≤◌, Bool, true, false, cond, ◌||◌, ltb, ◌≢◌, List, length, set, sym, refl, ap, ◌∙◌, subst, add-one, arith, below_more}
+use Rattle.std.proofs.Common.{◌≡◌, ℕ, suc, ◌+◌, ◌<◌, ◌≤◌, Bool, true, false, cond, ◌||◌, ltb, ◌≢◌, List, length, set, sym, refl, ap, ◌∙◌, subst, add-one, arith, below_more}
 use Rattle.std.proofs.lemmas.List.{ext_get_or, get_or-set_other, get_or-set_same, length-set}
 use Rattle.std.proofs.lemmas.Bool.{le-ltb, lt-ltb, ltb-false, ltb-true}
 use Rattle.facts.specs.Words.{has}
@@ -11,8 +11,18 @@ use Rattle.strips.specs.declared.action.Action.{Action}
 use Rattle.weights.specs.Tables.{Capped, cost, fact_count, weight}
 use Rattle.weights.specs.Weights.{height, lowered, opening, pass, weights}
 use Rattle.weights.specs.Order.{cost_capped}
-use Rattle.weights.specs.Lowering.{lowered_falls, pass_falls, pass_more, pass_none, pass_still}
-use Rattle.weights.specs.Greatest.{Between, between_opening, between_sweep, greatest_is, opening_at, opening_length, sweep_still}
+use Rattle.weights.specs.Lowering.{lowered_falls, pass_falls, pass_still}
+use Rattle.weights.specs.Greatest.{Between, between_opening, opening_at, opening_length}
+use Rattle.weights.proofs.Greatest.{between_sweep, greatest_is, sweep_still}
+
+-- a pass, action by action
+pub pass_none : (costs : List Estimate → Action → Estimate) (acts : List Action) (w : List Estimate) → pass costs acts 0 w ≡ w
+unfolding pass
+pass_none costs acts w = refl
+
+pub pass_more : (costs : List Estimate → Action → Estimate) (acts : List Action) (n : ℕ) (w : List Estimate) → pass costs acts (suc n) w ≡ lowered (costs (pass costs acts n w) (act acts n)) (act acts n).add.words (pass costs acts n w)
+unfolding pass
+pass_more costs acts n w = refl
 
 -- the first n facts of the opening
 abbrev pub Opened : State → ℕ → List Estimate → Type 0

@@ -1,8 +1,7 @@
 -- The weights are the greatest table that no action can lower.
-use Rattle.std.specs.Prelude.{◌≡◌, ℕ, zero, suc, ◌+◌, ◌<◌, ◌≤◌, Bool, true, false, cond, List, length, nat_lt, refl}
+use Rattle.std.specs.Prelude.{◌≡◌, ℕ, zero, suc, ◌<◌, ◌≤◌, Bool, true, false, cond, List, length, nat_lt, refl}
 use Rattle.std.proofs.Common.{sym, ap, ◌∙◌, ⊎_elim, arith}
 use Rattle.std.proofs.lemmas.List.FromFn.{get_or-map-range_with_len, length-map-range_with_len}
-use Rattle.std.proofs.lemmas.List.{ext_get_or}
 use Rattle.std.proofs.lemmas.Bool.{cases_Bool, le-ltb, ltb-false, ltb-true}
 use Rattle.facts.specs.Words.{has}
 use Rattle.heuristic.specs.declared.estimate.Estimate.{Estimate}
@@ -11,9 +10,9 @@ use Rattle.strips.specs.Semantics.{State}
 use Rattle.strips.specs.Sound.{act}
 use Rattle.strips.specs.declared.action.Action.{Action}
 use Rattle.weights.specs.Tables.{Feasible, Greatest, at_most, cost, fact_count, weight}
-use Rattle.weights.specs.Weights.{height, least, least_if, lowered, opening, pass, round, settled, weights}
-use Rattle.weights.specs.Order.{at_most_both, at_most_never, at_most_self, cost_capped, cost_mono, least_kept}
-use Rattle.weights.specs.Lowering.{Below, lowered_at, pass_above, pass_falls, pass_length, pass_still, pass_zero}
+use Rattle.weights.specs.Weights.{height, least_if, lowered, opening, pass, round, settled, weights}
+use Rattle.weights.specs.Order.{at_most_never, cost_capped, cost_mono, least_kept}
+use Rattle.weights.specs.Lowering.{Below, lowered_at, pass_above, pass_length, pass_still, pass_zero}
 
 -- a table on the way from the opening down: it lies above every feasible one
 pub record Between (acts : List Action) (s : State) (w : List Estimate) : Type 0 where
@@ -54,9 +53,6 @@ between_pass costs acts s w b bound = record {
 pub between_round : (acts : List Action) (s : State) (w : List Estimate) → Between acts s w → Between acts s (round acts w)
 between_round acts s w b = between_pass (λ _. cost w) acts s w b (λ v below u a _. cost_mono v w a below)
 
-pub between_sweep : (acts : List Action) (s : State) (w : List Estimate) → Between acts s w → Between acts s (pass cost acts (length acts) w)
-between_sweep acts s w b = between_pass cost acts s w b (λ v _ u a below. cost_mono v u a below)
-
 -- where no action lowers anything, the table is the greatest
 kept_bound : (b : Bool) (c e : Estimate) → b ≡ true → least_if b c e ≡ e → at_most e c ≡ true
 kept_bound true c e p h = least_kept c e h
@@ -78,33 +74,21 @@ between_still acts s w b kept = record {
     inside f l = omega (arith, b.size)
 
 -- rounds until nothing falls
-settled_none : (acts : List Action) (w : List Estimate) → settled acts 0 w ≡ w
+pub settled_none : (acts : List Action) (w : List Estimate) → settled acts 0 w ≡ w
 unfolding settled
 settled_none acts w = refl
 
-settled_falls : (acts : List Action) (n : ℕ) (w : List Estimate) → nat_lt (height (round acts w)) (height w) ≡ true → settled acts (suc n) w ≡ settled acts n (round acts w)
+pub settled_falls : (acts : List Action) (n : ℕ) (w : List Estimate) → nat_lt (height (round acts w)) (height w) ≡ true → settled acts (suc n) w ≡ settled acts n (round acts w)
 unfolding settled
 settled_falls acts n w h = ap (λ (b : Bool). elim b [ true ↦ settled acts n (round acts w) | false ↦ w ]) h
 
-settled_stops : (acts : List Action) (n : ℕ) (w : List Estimate) → nat_lt (height (round acts w)) (height w) ≡ false → settled acts (suc n) w ≡ w
+pub settled_stops : (acts : List Action) (n : ℕ) (w : List Estimate) → nat_lt (height (round acts w)) (height w) ≡ false → settled acts (suc n) w ≡ w
 unfolding settled
 settled_stops acts n w h = ap (λ (b : Bool). elim b [ true ↦ settled acts n (round acts w) | false ↦ w ]) h
 
 round_still : (acts : List Action) (s : State) (w : List Estimate) → Between acts s w → nat_lt (height (round acts w)) (height w) ≡ false → Greatest acts s w
 round_still acts s w b h =
     between_still acts s w b (pass_still (λ _. cost w) acts (λ u a. cost_capped w a) (length acts) w (ltb-false (height (round acts w)) (height w) h)).1
-
-pub sweep_still : (acts : List Action) (s : State) (w : List Estimate) → Between acts s w → height w ≤ height (pass cost acts (length acts) w) → Greatest acts s w
-sweep_still acts s w b h = between_still acts s w b (pass_still cost acts cost_capped (length acts) w h).1
-
--- what holds of the opening and is kept by a round holds of the weights
-pub by_rounds : (acts : List Action) (P : List Estimate → Type 0) → ((w : List Estimate) → P w → P (round acts w)) → (n : ℕ) (w : List Estimate) → P w → P (settled acts n w)
-by_rounds acts P step zero w p = rw (settled_none acts w) p
-by_rounds acts P step (suc n) w p =
-    ⊎_elim
-    (λ h. rw (settled_falls acts n w h) (by_rounds acts P step n (round acts w) (step w p)))
-    (λ h. rw (settled_stops acts n w h) p)
-    (cases_Bool (nat_lt (height (round acts w)) (height w)))
 
 settled_greatest : (acts : List Action) (s : State) (n : ℕ) (w : List Estimate) → height w ≤ n → Between acts s w → Greatest acts s (settled acts n w)
 settled_greatest acts s zero w l b =
@@ -126,18 +110,3 @@ weights_greatest acts s = settled_greatest acts s (height (opening s)) (opening 
   where
     self : (n : ℕ) → n ≤ n
     self n = omega arith
-
-pub weights_length : (acts : List Action) (s : State) → length (weights acts s) ≡ fact_count
-unfolding weights
-weights_length acts s = by_rounds acts (λ w. length w ≡ fact_count) (λ w e. pass_length (λ _. cost w) acts (length acts) w ∙ e) (height (opening s)) (opening s) (opening_length s)
-
-pub greatest_agree : (acts : List Action) (s : State) (v w : List Estimate) → Greatest acts s v → Greatest acts s w → (f : ℕ) → f < fact_count → weight v f ≡ weight w f
-greatest_agree acts s v w p q f l = at_most_both (weight v f) (weight w f) (q.above v p.feasible f l) (p.above w q.feasible f l)
-
--- a table of a weight for each fact that is the greatest is the weights
-pub greatest_is : (acts : List Action) (s : State) (w : List Estimate) → length w ≡ fact_count → Greatest acts s w → w ≡ weights acts s
-greatest_is acts s w size p =
-    ext_get_or Never w (weights acts s) (size ∙ sym (weights_length acts s)) (λ f l. greatest_agree acts s w (weights acts s) p (weights_greatest acts s) f (inside f l))
-  where
-    inside : (f : ℕ) → f < length w → f < fact_count
-    inside f l = omega (arith, size)

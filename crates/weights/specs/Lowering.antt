@@ -1,21 +1,20 @@
 -- Lemmas on lowering a table.
-use Rattle.std.specs.Prelude.{◌≡◌, ℕ, zero, suc, ◌+◌, ◌<◌, ◌≤◌, Bool, true, false, ltb, List, [], ◌∷◌, length, get_or, sum_by}
+use Rattle.std.specs.Prelude.{◌≡◌, ℕ, zero, suc, ◌+◌, ◌<◌, ◌≤◌, true, List, [], ◌∷◌, length, sum_by}
 use Rattle.std.proofs.Math.Path.{refl, ap}
 use Rattle.std.proofs.Common.{sym, ◌∙◌, add-zero, zero-add}
 use Rattle.std.proofs.Math.Logic.{⊎_elim}
 use native.Mathlib.Omega.{arith}
-use Rattle.std.proofs.lemmas.List.{ext_get_or}
 use Rattle.std.proofs.lemmas.List.Sums.{sum_by-cons}
 use Rattle.std.proofs.lemmas.Bool.{cases_lt}
 use Rattle.facts.specs.Words.{has}
 use Rattle.heuristic.specs.declared.estimate.Estimate.{Estimate}
-use Rattle.heuristic.specs.declared.estimate.Estimate.TheVariants.{Steps, Never}
+use Rattle.heuristic.specs.declared.estimate.Estimate.TheVariants.{Steps}
 use Rattle.strips.specs.Semantics.{State}
 use Rattle.strips.specs.Sound.{act}
 use Rattle.strips.specs.declared.action.Action.{Action}
-use Rattle.weights.specs.Tables.{Capped, Feasible, Greatest, at_most, cost, fact_count, weight}
+use Rattle.weights.specs.Tables.{Capped, Feasible, at_most, cost, fact_count, weight}
 use Rattle.weights.specs.Weights.{height, least_if, lowered, lowered_from, pass, rank}
-use Rattle.weights.specs.Order.{at_most_self, at_most_trans, least_if_above, least_if_zero, least_kept, rank_least_if, rank_same_if}
+use Rattle.weights.specs.Order.{at_most_trans, least_if_above, least_if_zero, rank_least_if, rank_same_if}
 
 from_length : (c : Estimate) (ws : State) (n : ℕ) (w : List Estimate) → length (lowered_from c ws n w) ≡ length w
 from_length c ws n [] = refl
@@ -73,14 +72,6 @@ through : (a b c : ℕ) → a ≤ b → b ≤ c → a ≤ c
 through a b c p q = omega arith
 
 module _ (costs : List Estimate → Action → Estimate) (acts : List Action) where
-  pub pass_none : (w : List Estimate) → pass costs acts 0 w ≡ w
-  unfolding pass
-  pass_none w = refl
-
-  pub pass_more : (n : ℕ) (w : List Estimate) → pass costs acts (suc n) w ≡ lowered (costs (pass costs acts n w) (act acts n)) (act acts n).add.words (pass costs acts n w)
-  unfolding pass
-  pass_more n w = refl
-
   pub pass_length : (n : ℕ) (w : List Estimate) → length (pass costs acts n w) ≡ length w
   unfolding pass
   pass_length zero w = refl

@@ -1,9 +1,8 @@
 -- Lemmas on the order and the sums of weights.
-use Rattle.std.specs.Prelude.{◌≡◌, ℕ, zero, suc, ◌+◌, ◌<◌, ◌≤◌, min, Bool, true, false, List, ◌≢◌, refl}
-use Rattle.std.proofs.Common.{sym, ap, ◌∙◌, arith}
+use Rattle.std.specs.Prelude.{◌≡◌, ℕ, zero, suc, ◌<◌, ◌≤◌, min, Bool, true, false, List, ◌≢◌, refl}
+use Rattle.std.proofs.Common.{ap, ◌∙◌, arith}
 use Rattle.std.proofs.lemmas.Bool.{le-leb, leb-true, false≢true}
 use Rattle.facts.specs.Words.{has}
-use Rattle.heuristic.specs.Laws.{most_steps}
 use Rattle.heuristic.specs.declared.estimate.Estimate.{Estimate}
 use Rattle.heuristic.specs.declared.estimate.Estimate.TheVariants.{Steps, Never}
 use Rattle.strips.specs.Semantics.{State}
@@ -17,10 +16,6 @@ steps_same m n e = cc
 pub steps_never : (n : ℕ) → Steps n ≢ Never
 steps_never n e = let z : ◌≡◌ {A = ℕ} 0 1 = cc in omega arith
 
-pub at_most_self : (e : Estimate) → at_most e e ≡ true
-at_most_self (Steps n) = le-leb n n (omega arith)
-at_most_self Never = refl
-
 pub at_most_never : (e : Estimate) → at_most e Never ≡ true
 at_most_never (Steps n) = refl
 at_most_never Never = refl
@@ -32,12 +27,6 @@ at_most_trans (Steps l) Never (Steps n) p q = absurd (false≢true q)
 at_most_trans (Steps l) Never Never p q = refl
 at_most_trans Never (Steps m) c p q = absurd (false≢true p)
 at_most_trans Never Never c p q = q
-
-pub at_most_both : (a b : Estimate) → at_most a b ≡ true → at_most b a ≡ true → a ≡ b
-at_most_both (Steps m) (Steps n) p q = ap Steps (omega (arith, leb-true m n p, leb-true n m q))
-at_most_both (Steps m) Never p q = absurd (false≢true q)
-at_most_both Never (Steps n) p q = absurd (false≢true p)
-at_most_both Never Never p q = refl
 
 pub plus_mono : (a b c d : Estimate) → at_most a c ≡ true → at_most b d ≡ true → at_most (plus a b) (plus c d) ≡ true
 plus_mono (Steps a) (Steps b) (Steps c) (Steps d) p q = le-leb _ _ (omega (arith, leb-true a c p, leb-true b d q))

@@ -1,6 +1,6 @@
 -- What a sum of weights tells of its parts: 0 where all weigh 0, and never where one does.
-use Rattle.std.specs.Prelude.{◌≡◌, ℕ, zero, suc, ◌+◌, ◌<◌, ◌≤◌, min, Bool, true, false, ◌⊎◌, List, ◌≢◌, refl}
-use Rattle.std.proofs.Common.{sym, ap, ◌∙◌, ⊎_elim, inl, inr, arith}
+use Rattle.std.specs.Prelude.{◌≡◌, ℕ, zero, suc, ◌+◌, ◌<◌, min, Bool, true, false, List, ◌≢◌, refl}
+use Rattle.std.proofs.Common.{sym, ap, ◌∙◌, ⊎_elim, arith}
 use Rattle.std.proofs.lemmas.Bool.{cases_lt, false≢true}
 use Rattle.facts.specs.Words.{has}
 use Rattle.heuristic.specs.declared.estimate.Estimate.{Estimate}
@@ -8,11 +8,10 @@ use Rattle.heuristic.specs.declared.estimate.Estimate.TheVariants.{Steps, Never}
 use Rattle.strips.specs.Semantics.{State}
 use Rattle.strips.specs.declared.action.Action.{Action}
 use Rattle.weights.specs.Tables.{at_most, cost, fact_count, plus, plus_if, total, weight}
-use Rattle.weights.specs.Weights.{least_if}
 use Rattle.weights.specs.Order.{steps_same, steps_never}
 
 -- one fact of those below n + 1
-last_or : (P : ℕ → Type 0) (n f : ℕ) → f < suc n → P n → (f < n → P f) → P f
+pub last_or : (P : ℕ → Type 0) (n f : ℕ) → f < suc n → P n → (f < n → P f) → P f
 last_or P n f l here before =
     ⊎_elim before (λ m. let e : n ≡ f = omega arith in rw e at here) (cases_lt f n)
 
@@ -51,10 +50,6 @@ pub weighed_never : (e : Estimate) → e ≡ Never → weighed e ≢ true
 weighed_never (Steps n) e h = steps_never n e
 weighed_never Never e h = false≢true h
 
-pub never_from : (e : Estimate) → (weighed e ≢ true) → e ≡ Never
-never_from (Steps n) h = absurd (h refl)
-never_from Never h = refl
-
 pub weighed_below : (e c : Estimate) → at_most e c ≡ true → weighed c ≡ true → weighed e ≡ true
 weighed_below (Steps m) c p q = refl
 weighed_below Never (Steps n) p q = absurd (false≢true p)
@@ -65,12 +60,6 @@ plus_weighed (Steps m) (Steps n) p q = refl
 plus_weighed (Steps m) Never p q = q
 plus_weighed Never b p q = absurd (false≢true p)
 
-weighed_plus : (a b : Estimate) → weighed (plus a b) ≡ true → (weighed a ≡ true) × (weighed b ≡ true)
-weighed_plus (Steps m) (Steps n) p = (refl, refl)
-weighed_plus (Steps m) Never p = absurd (false≢true p)
-weighed_plus Never (Steps n) p = absurd (false≢true p)
-weighed_plus Never Never p = absurd (false≢true p)
-
 pub total_weighed : (w : List Estimate) (ws : State) (n : ℕ) → ((f : ℕ) → f < n → has ws f ≡ true → weighed (weight w f) ≡ true) → weighed (total w ws n) ≡ true
 unfolding total
 total_weighed w ws zero h = refl
@@ -80,25 +69,5 @@ total_weighed w ws (suc n) h = add (has ws n) (h n (omega arith)) (total_weighed
     add true p q = plus_weighed (total w ws n) (weight w n) q (p refl)
     add false p q = q
 
-pub weighed_total : (w : List Estimate) (ws : State) (n : ℕ) → weighed (total w ws n) ≡ true → (f : ℕ) → f < n → has ws f ≡ true → weighed (weight w f) ≡ true
-unfolding total
-weighed_total w ws zero e f l = absurd (omega arith)
-weighed_total w ws (suc n) e f l =
-    let parts = split (has ws n) e in
-    last_or (λ f. has ws f ≡ true → weighed (weight w f) ≡ true) n f l parts.1 (λ m. weighed_total w ws n parts.0 f m)
-  where
-    split : (b : Bool) → weighed (plus_if b (total w ws n) (weight w n)) ≡ true → (weighed (total w ws n) ≡ true) × (b ≡ true → weighed (weight w n) ≡ true)
-    split true p = let both = weighed_plus (total w ws n) (weight w n) p in (both.0, λ _. both.1)
-    split false p = (p, λ q. absurd (false≢true q))
-
 pub cost_weighed : (w : List Estimate) (a : Action) → ((f : ℕ) → f < fact_count → has a.pre.words f ≡ true → weighed (weight w f) ≡ true) → weighed (cost w a) ≡ true
 cost_weighed w a h = plus_weighed (Steps 1) (total w a.pre.words fact_count) refl (total_weighed w a.pre.words fact_count h)
-
-pub weighed_cost : (w : List Estimate) (a : Action) → weighed (cost w a) ≡ true → (f : ℕ) → f < fact_count → has a.pre.words f ≡ true → weighed (weight w f) ≡ true
-weighed_cost w a h = weighed_total w a.pre.words fact_count (weighed_plus (Steps 1) (total w a.pre.words fact_count) h).1
-
-pub least_if_weighed : (b : Bool) (c e : Estimate) → weighed (least_if b c e) ≡ true → (weighed e ≡ true) ⊎ ((b ≡ true) × (weighed c ≡ true))
-least_if_weighed false c e h = inl h
-least_if_weighed true (Steps m) e h = inr (refl, refl)
-least_if_weighed true Never (Steps n) h = inl h
-least_if_weighed true Never Never h = inl h

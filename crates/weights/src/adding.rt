@@ -1,5 +1,5 @@
 ghost use Rattle.std.specs.Prelude.{◌≡◌, not};
-ghost use Rattle.weights.specs.Tables.{at_most, plus as plusOf};
+ghost use Rattle.weights.specs.Tables.{at_most, plus as plus_of};
 ghost use Rattle.weights.specs.Weights.{least};
 
 use heuristic::Estimate;
@@ -9,7 +9,7 @@ const MOST_STEPS: u16 = 65534;
 
 // The sum of two weights: it stops at the largest estimate, and is never where one of them is.
 pub(crate) fn plus(a: Estimate, b: Estimate) -> Estimate
-    ensures { result ≡ plusOf a b }
+    ensures { result ≡ plus_of a b }
 {
     match (a, b) {
         (Estimate::Steps(m), Estimate::Steps(n)) => Estimate::Steps(

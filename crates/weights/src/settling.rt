@@ -1,7 +1,7 @@
 ghost use Rattle.std.specs.Prelude.{◌≡◌, ℕ, ◌<◌, cond, length, nat_lt};
 ghost use Rattle.strips.specs.Sound.{act};
-ghost use Rattle.weights.specs.Tables.{Capped, cost as costOf, fact_count, total as total_of};
-ghost use Rattle.weights.specs.Weights.{height, lowered, opening, pass, weights as weightsOf};
+ghost use Rattle.weights.specs.Tables.{Capped, cost as cost_of, fact_count, total as total_of};
+ghost use Rattle.weights.specs.Weights.{height, lowered, opening, pass, weights as weights_of};
 
 use crate::adding::{lower, plus};
 use crate::table::{FACTS, Weights};
@@ -51,7 +51,7 @@ impl Weights {
 
     // What an action costs: one step, and its preconditions' weights.
     fn cost(&self, action: &Action) -> Estimate
-        ensures { result ≡ costOf self.now.table action.now }
+        ensures { result ≡ cost_of self.now.table action.now }
     {
         plus(Estimate::Steps(1), self.total(&action.pre))
     }
@@ -59,7 +59,7 @@ impl Weights {
     // Lowers what an action adds to its cost, and says whether a weight fell.
     fn lower_by(&mut self, task: &Task, k: usize) -> bool
         requires { k < length task.now.actions.items }
-        ensures table { self.new.table ≡ lowered (costOf self.old.table (act task.now.actions.items k)) (act task.now.actions.items k).add.words self.old.table }
+        ensures table { self.new.table ≡ lowered (cost_of self.old.table (act task.now.actions.items k)) (act task.now.actions.items k).add.words self.old.table }
         ensures fell { result ≡ nat_lt (height self.new.table) (height self.old.table) }
     {
         match task.action(k) {
@@ -73,7 +73,7 @@ impl Weights {
 
     // Goes through the actions once, and says whether a weight fell.
     fn sweep(&mut self, task: &Task) -> bool
-        ensures table { self.new.table ≡ pass costOf task.now.actions.items (length task.now.actions.items) self.old.table }
+        ensures table { self.new.table ≡ pass cost_of task.now.actions.items (length task.now.actions.items) self.old.table }
         ensures fell { result ≡ nat_lt (height self.new.table) (height self.old.table) }
     {
         let mut fell = false;
@@ -94,7 +94,7 @@ impl Weights {
 
     // Lowers weights until nothing falls: a sweep uses the weights that it lowered, so it takes fewer of them than rounds would.
     pub(crate) fn settle(&mut self, task: &Task, state: &FactSet)
-        ensures { self.new.table ≡ weightsOf task.now.actions.items state.now.words }
+        ensures { self.new.table ≡ weights_of task.now.actions.items state.now.words }
     {
         self.open(state);
         'settle: while self.sweep(task) {}

@@ -1,5 +1,5 @@
 -- The two estimators that ignore deletes agree on where no plan exists.
-use Rattle.std.specs.Prelude.{◌≡◌, ℕ, List}
+use Rattle.std.specs.Prelude.{◌≡◌, List}
 use Rattle.strips.specs.declared.action.Action.{Action}
 use Rattle.strips.specs.Semantics.{State}
 use Rattle.heuristic.specs.declared.estimate.Estimate.TheVariants.{Never}

@@ -1,4 +1,6 @@
 // What the estimators say of the worked yards: as facts that the definitions compute, and as tests that run.
+#![tactic(auto)]
+
 ghost use Rattle.worked_estimates.specs.Agreement.{RelaxedIsWeighed, WeighedIsRelaxed};
 ghost use Rattle.worked_estimates.specs.Rows.{EveryRow, HelpfulLifts};
 

@@ -1,6 +1,7 @@
 use facts::ActionSet;
 use heuristic::{Estimate, Estimator, GoalCount};
 use relaxed::RelaxedGraph;
+use std::process::Abort;
 use std::test::*;
 use strips::Task;
 use weights::Weights;
@@ -41,7 +42,7 @@ fn put(file: &mut [u8], bit: Bit) {
     }
 }
 
-fn check_yard(rt: &HostRuntime, yard: &Yard) -> Result<(), Fail> {
+fn check_yard(rt: &(impl Abort + AllocGlobal), yard: &Yard) -> Result<(), Fail> {
     let mut file = vec![in rt.alloc(); 0u8; usize::from(yard.records) * 96]?;
     for fact in 0..=255 {
         put(
@@ -60,20 +61,20 @@ fn check_yard(rt: &HostRuntime, yard: &Yard) -> Result<(), Fail> {
     task.read(&file)?;
     let mut preferred = ActionSet::empty();
     let mut graph = RelaxedGraph::new();
-    assert_eq!(
+    assert_eq!(rt;
         graph.estimate(&task, &task.goal(), &task.initial(), &mut preferred),
         yard.relaxed
     );
     for k in 0..yard.records {
-        assert_eq!(preferred.contains(k), yard.helpful.contains(&k));
+        assert_eq!(rt; preferred.contains(k), yard.helpful.contains(&k));
     }
     let mut weights = Weights::new();
-    assert_eq!(
+    assert_eq!(rt;
         weights.estimate(&task, &task.goal(), &task.initial(), &mut preferred),
         yard.weights
     );
     let mut counter = GoalCount {};
-    assert_eq!(
+    assert_eq!(rt;
         counter.estimate(&task, &task.goal(), &task.initial(), &mut preferred),
         yard.count
     );
@@ -115,7 +116,7 @@ fn three_lifts(rt: HostRuntime) -> Result<(), Fail> {
 
 // Key, from the state that is given.
 fn check_key(
-    rt: &HostRuntime,
+    rt: &(impl Abort + AllocGlobal),
     state: u8,
     relaxed: Estimate,
     weights: Estimate,
@@ -240,7 +241,12 @@ fn marked_before_their_turn(rt: HostRuntime) -> Result<(), Fail> {
 }
 
 // A ladder of `rungs`: facts 2 i and 2 i + 1 stand on rung i, and each needs both of the rung below.
-fn check_ladder(rt: &HostRuntime, rungs: u8, relaxed: u16, weights: u16) -> Result<(), Fail> {
+fn check_ladder(
+    rt: &(impl Abort + AllocGlobal),
+    rungs: u8,
+    relaxed: u16,
+    weights: u16,
+) -> Result<(), Fail> {
     let mut bits = Vec::new(rt.alloc());
     bits.push(at(0, INITIAL, 0))?;
     bits.push(at(0, INITIAL, 1))?;

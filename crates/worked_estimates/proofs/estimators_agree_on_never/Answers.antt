@@ -1,5 +1,5 @@
 use Rattle.relaxed.proofs.Reaching.{never_is_none, none_is_never}
-use Rattle.weights.specs.Lawful.{never_unreached, unreached_never}
+use Rattle.weights.proofs.Lawful.{never_unreached, unreached_never}
 use Rattle.worked_estimates.proofs.estimators_agree_on_never.Goals as goal
 
 pub returns : goal.returns

@@ -8,4 +8,4 @@ unfolding numbers
 loop-k-init c = sym (append-nil _)
 
 pub loop-k-preserved : goal.loop-k-preserved
-loop-k-preserved c = numbers_more _ _ _ _ _ c.loop-k.invariant c.in-ok-add.ensures
+loop-k-preserved c = numbers_more _ _ _ _ _ c.loop-k.invariant c.in_ok-add.ensures

@@ -1,4 +1,4 @@
-use Rattle.std.proofs.Common.{◌-◌, ◌*◌, ◌≤◌, vec_items}
+use Rattle.std.proofs.Common.{◌*◌, ◌≤◌, vec_items}
 use Rattle.relaxed.specs.Graph.{Descends}
 use Rattle.relaxed.proofs.graph.RelaxedGraph.extract.Given as goal
 

@@ -1,4 +1,4 @@
-use Rattle.std.proofs.Common.{◌≡◌, ℕ, ◌<◌, ◌&&◌, ltb, length}
+use Rattle.std.proofs.Common.{◌≡◌, ℕ, ◌&&◌, ltb, length}
 use Rattle.facts.specs.Words.{has}
 use Rattle.relaxed.specs.Nodes.{node, wanted_first}
 use Rattle.relaxed.proofs.graph.RelaxedGraph.first_wanted.Given as goal

@@ -1,5 +1,5 @@
-use Rattle.std.proofs.Common.{◌≡◌, refl, arith}
-use Rattle.weights.proofs.Walks.{fell_step, partly_end, partly_start, partly_step}
+use Rattle.std.proofs.Common.{arith}
+use Rattle.weights.proofs.Walks.{fell_step, partly_end, partly_step}
 use Rattle.weights.proofs.table.Weights.lower_all.Goals as goal
 
 pub loop-fact-preserved : goal.loop-fact-preserved
@@ -15,4 +15,4 @@ loop-fact-preserved c =
 pub returns : goal.returns
 returns c =
     let inv = c.loop-fact.invariant in
-    record { table = partly_end _ _ c.loop-fact.from _ _ c.args.self.now.sized c.in-default.ensures inv.0; fell = inv.1.0 }
+    record { table = partly_end _ _ c.loop-fact.from _ _ c.args.self.now.sized c.in_default.ensures inv.0; fell = inv.1.0 }

@@ -1,4 +1,4 @@
-use Rattle.std.proofs.Common.{vec_items, arith}
+use Rattle.std.proofs.Common.{vec_items}
 use Rattle.weights.proofs.Sweeps.{sweep_more, sweep_none}
 use Rattle.weights.proofs.table.Weights.sweep.Goals as goal
 
@@ -7,4 +7,4 @@ loop-k-init c = sweep_none (vec_items c.args.task.now.actions) c.args.self.now.t
 
 pub loop-k-preserved : goal.loop-k-preserved
 loop-k-preserved c =
-    sweep_more (vec_items c.args.task.now.actions) c.loop-k.k c.args.self.now.table c.loop-k.self.table _ c.loop-k.fell _ c.loop-k.invariant c.lower-by-fell.ensures.table c.lower-by-fell.ensures.fell
+    sweep_more (vec_items c.args.task.now.actions) c.loop-k.k c.args.self.now.table c.loop-k.self.table _ c.loop-k.fell _ c.loop-k.invariant c.lower_by-fell.ensures.table c.lower_by-fell.ensures.fell

@@ -1,4 +1,4 @@
-use Rattle.std.proofs.Common.{◌≡◌, ◌≤◌, ltb, vec_items}
+use Rattle.std.proofs.Common.{◌≡◌, ltb, vec_items}
 use Rattle.weights.specs.Tables.{cost}
 use Rattle.weights.specs.Weights.{height, pass}
 use Rattle.weights.proofs.table.Weights.sweep.Given as goal

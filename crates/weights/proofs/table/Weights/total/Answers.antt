@@ -15,4 +15,4 @@ loop-fact-preserved c = (
 )
 
 pub returns : goal.returns
-returns c = total_end _ _ c.loop-fact.from _ (omega arith) c.in-default.ensures c.loop-fact.invariant.0
+returns c = total_end _ _ c.loop-fact.from _ (omega arith) c.in_default.ensures c.loop-fact.invariant.0

@@ -1,8 +1,8 @@
 -- The table follows extraction.
-use Rattle.std.specs.Prelude.{◌≡◌, ℕ, zero, suc, ◌+◌, ◌-◌, ◌<◌, ◌≤◌, Bool, true, false, cond, not, ◌&&◌, ◌||◌, ltb, leb, List, [], length, ◌==◌, nat_eq, nat_le, nat_lt, refl}
+use Rattle.std.specs.Prelude.{◌≡◌, ℕ, suc, ◌+◌, ◌-◌, ◌<◌, ◌≤◌, Bool, true, false, cond, not, ◌&&◌, ◌||◌, ltb, leb, List, [], length, ◌==◌, nat_eq, nat_le, nat_lt, refl}
 use Rattle.std.proofs.Common.{sym, ap, subst, ◌∙◌, ⊎_elim, arith, add-zero, add_assoc, add-one}
-use Rattle.std.proofs.lemmas.Bool.{cases_order, cases_lt, lt-ltb, le-ltb, le-leb, lt-leb, eq-eqb, ne_eqb, and_parts, false≢true, true≢false}
-use Rattle.facts.specs.Words.{has, union, without}
+use Rattle.std.proofs.lemmas.Bool.{cases_order, cases_lt, lt-ltb, le-ltb, le-leb, lt-leb, eq-eqb, ne_eqb, and_parts}
+use Rattle.facts.specs.Words.{has, without}
 use Rattle.facts.proofs.Sets.{has_union, has_without, has_past}
 use Rattle.strips.specs.declared.action.Action.{Action}
 use Rattle.strips.specs.Semantics.{State}
@@ -10,7 +10,7 @@ use Rattle.strips.specs.Sound.{act}
 use Rattle.relaxed.specs.declared.graph.FactNode.{FactNode}
 use Rattle.relaxed.specs.Layers.{layer, new_fact}
 use Rattle.relaxed.specs.Extract.{Marks, adder, chosen, visit, pass, lower, treated}
-use Rattle.relaxed.specs.Nodes.{node, Each, selected, selected_as, due}
+use Rattle.relaxed.specs.Nodes.{node, Each, selected, due}
 use Rattle.relaxed.specs.Graph.{Graph, Fresh, Shows, Treats, Descends, Extracts}
 
 -- tests

@@ -1,28 +1,27 @@
 -- The table follows the layers.
-use Rattle.std.specs.Prelude.{◌≡◌, ℕ, zero, suc, ◌+◌, ◌-◌, ◌<◌, ◌≤◌, Bool, true, false, cond, not, ◌&&◌, ◌||◌, leb, ◌⊎◌, List, [], length, ◌≢◌, nat_le, nat_lt, refl}
-use Rattle.std.proofs.Common.{sym, ap, subst, ◌∙◌, ⊎_elim, inl, inr, arith, add-one}
-use Rattle.std.proofs.lemmas.Bool.{not_from_false, cases_Bool, cases_lt, lt-ltb, le-ltb, le-leb, lt-leb, leb-true, leb-false, and_parts, and_from, both_ways, or_left, or_right, not-true, and_left, and_right}
+use Rattle.std.specs.Prelude.{◌≡◌, ℕ, zero, suc, ◌+◌, ◌<◌, ◌≤◌, Bool, true, false, cond, not, ◌&&◌, ◌||◌, leb, List, length, ◌≢◌, nat_le, nat_lt, refl}
+use Rattle.std.proofs.Common.{sym, ap, subst, ◌∙◌, ⊎_elim, arith, add-one}
+use Rattle.std.proofs.lemmas.Bool.{cases_Bool, cases_lt, lt-ltb, le-ltb, le-leb, lt-leb, leb-true, leb-false, and_parts, both_ways, not-true, and_right}
 use Rattle.facts.specs.Words.{has, union, subset}
-use Rattle.facts.proofs.Sets.{has_union, subset_has}
+use Rattle.facts.proofs.Sets.{has_union}
 use Rattle.strips.specs.declared.action.Action.{Action}
 use Rattle.strips.specs.Semantics.{State, applicable}
 use Rattle.strips.specs.Sound.{act}
 use Rattle.relaxed.specs.declared.graph.FactNode.{FactNode}
-use Rattle.relaxed.specs.Layers.{brings, layer, first, grown, with_adds, new_fact, new_action}
+use Rattle.relaxed.specs.Layers.{brings, layer, first, grown, new_fact}
 use Rattle.relaxed.specs.Extract.{adder}
 use Rattle.relaxed.specs.Plan.{last}
-use Rattle.relaxed.specs.Nodes.{node, Each, opened, brought_as, offered, joined}
+use Rattle.relaxed.specs.Nodes.{node, Each, opened, offered, joined}
 use Rattle.relaxed.specs.Graph.{Graph, Fresh}
-use Rattle.relaxed.specs.Firsts.{first_keep, first_skip, first_take, first_zero, first_none, first_at, first_same}
+use Rattle.relaxed.specs.Firsts.{first_keep, first_skip, first_take, first_zero, first_none}
+use Rattle.relaxed.specs.Growing.{layer_suc, grown_stays, grown_keeps, brings_new, grown_adds, grown_has}
 
--- layers
-pub layer_none : (acts : List Action) (s : State) → s ≡ layer acts s 0
-unfolding layer
-layer_none acts s = refl
-
-pub layer_suc : (acts : List Action) (s : State) (i : ℕ) → layer acts s (suc i) ≡ grown acts (layer acts s i) (length acts)
-unfolding layer
-layer_suc acts s i = refl
+pub first_same : (p q : ℕ → Bool) (n : ℕ) → ((k : ℕ) → k < n → p k ≡ q k) → first p n ≡ first q n
+unfolding first
+first_same p q zero h = refl
+first_same p q (suc n) h =
+    let r = first_same p q n (λ k l. h k (omega arith)) in
+    ap (λ (x : ℕ). cond (nat_lt x n) x (cond (p n) n (suc n))) r ∙ ap (λ (b : Bool). cond (nat_lt (first q n) n) (first q n) (cond b n (suc n))) (h n (omega arith))
 
 pub layer_more : (acts : List Action) (s ws ws' : State) (i : ℕ) → ws ≡ layer acts s i → ws' ≡ grown acts ws (length acts) → ws' ≡ layer acts s (i + 1)
 layer_more acts s ws ws' i e h =
@@ -35,11 +34,6 @@ layer_stuck acts s i (suc j) e l =
     (λ m. layer_suc acts s j ∙ ap (λ (x : State). grown acts x (length acts)) (layer_stuck acts s i j e (omega arith)) ∙ sym (layer_suc acts s i) ∙ e)
     (λ m. ap (layer acts s) (let q : suc j ≡ i = omega arith in q))
     (cases_lt i (suc j))
-
--- the last layer
-pub last_at : (acts : List Action) (goal s ws : State) (i : ℕ) → i < 257 → ws ≡ layer acts s i → ((j : ℕ) → j < i → subset goal (layer acts s j) ≡ false) → true ≡ subset goal ws → last acts goal s ≡ i
-unfolding last
-last_at acts goal s ws i l e h t = first_at (λ i. subset goal (layer acts s i)) 257 i l h (ap (subset goal) (sym e) ∙ sym t)
 
 pub last_none : (acts : List Action) (goal s : State) → ((j : ℕ) → j < 257 → subset goal (layer acts s j) ≡ false) → last acts goal s ≡ 257
 unfolding last
@@ -121,35 +115,6 @@ joined_known acts base i (suc k) f n l =
     let r = joined_known acts base i k f n l in
     ap (offered acts base (grown acts base k) i k f) r ∙ stay (brings acts base (grown acts base k) k) (has (act acts k).add.words f) (nat_lt i n.level) _ n (le-ltb i n.level l)
 
--- grown sets
-grown_stays : (acts : List Action) (base : State) (k f : ℕ) → has (grown acts base k) f ≡ true → has (grown acts base (suc k)) f ≡ true
-unfolding grown
-grown_stays acts base k f h = keep (brings acts base (grown acts base k) k)
-  where
-    keep : (b : Bool) → has (cond b (union (grown acts base k) (act acts k).add.words) (grown acts base k)) f ≡ true
-    keep true = has_union (grown acts base k) (act acts k).add.words f ∙ or_left (has (grown acts base k) f) (has (act acts k).add.words f) h
-    keep false = h
-
-pub grown_keeps : (acts : List Action) (base : State) (k f : ℕ) → has base f ≡ true → has (grown acts base k) f ≡ true
-unfolding grown
-grown_keeps acts base zero f e = e
-grown_keeps acts base (suc k) f e = grown_stays acts base k f (grown_keeps acts base k f e)
-
--- an action that adds a fact which is not there brings something
-brings_new : (acts : List Action) (base ws : State) (k f : ℕ) → applicable (act acts k) base ≡ true → has (act acts k).add.words f ≡ true → has ws f ≡ false → brings acts base ws k ≡ true
-brings_new acts base ws k f p a h =
-    and_from _ _ p (not_from_false _ (⊎_elim (λ t. absurd (both_ways (has ws f) h (subset_has (act acts k).add.words ws t f a))) (λ e. e) (cases_Bool (subset (act acts k).add.words ws))))
-
-grown_adds : (acts : List Action) (base : State) (k f : ℕ) → applicable (act acts k) base ≡ true → has (act acts k).add.words f ≡ true → has (grown acts base (suc k)) f ≡ true
-unfolding grown
-grown_adds acts base k f p a =
-    ⊎_elim
-    (λ h. grown_stays acts base k f h)
-    (λ h.
-    ap (λ (b : Bool). has (cond b (union (grown acts base k) (act acts k).add.words) (grown acts base k)) f) (brings_new acts base (grown acts base k) k f p a h)
-    ∙ has_union (grown acts base k) (act acts k).add.words f ∙ or_right (has (grown acts base k) f) (has (act acts k).add.words f) a)
-    (cases_Bool (has (grown acts base k) f))
-
 grown_lacks : (acts : List Action) (base : State) (k f : ℕ) → (applicable (act acts k) base && has (act acts k).add.words f) ≡ false → has (grown acts base k) f ≡ false → has (grown acts base (suc k)) f ≡ false
 unfolding grown
 grown_lacks acts base k f n h = lack (applicable (act acts k) base) (not (subset (act acts k).add.words (grown acts base k))) n
@@ -158,13 +123,6 @@ grown_lacks acts base k f n h = lack (applicable (act acts k) base) (not (subset
     lack true true e = has_union (grown acts base k) (act acts k).add.words f ∙ ap (λ (x : Bool). x || has (act acts k).add.words f) h ∙ e
     lack true false e = h
     lack false t e = h
-
-pub grown_has : (acts : List Action) (base : State) (n k f : ℕ) → k < n → applicable (act acts k) base ≡ true → has (act acts k).add.words f ≡ true → has (grown acts base n) f ≡ true
-grown_has acts base zero k f l p a = absurd (omega arith)
-grown_has acts base (suc n) k f l p a =
-    ⊎_elim (λ m. grown_stays acts base n f (grown_has acts base n k f m p a))
-    (λ m. let q : k ≡ n = omega arith in grown_adds acts base n f (ap (λ (x : ℕ). applicable (act acts x) base) (sym q) ∙ p) (ap (λ (x : ℕ). has (act acts x).add.words f) (sym q) ∙ a))
-    (cases_lt k n)
 
 -- a fact that no layer before has: not brought yet, or brought by the first action that adds it
 abbrev adds : List Action → State → ℕ → ℕ → Bool

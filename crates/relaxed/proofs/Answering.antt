@@ -1,37 +1,29 @@
 -- From the table to the answer.
-use Rattle.std.specs.Prelude.{◌≡◌, ℕ, zero, suc, ◌+◌, ◌-◌, ◌/◌, ◌^◌, ◌<◌, ◌≤◌, Bool, true, false, cond, not, ◌&&◌, ◌||◌, List, [], length, set, ◌==◌, nat_le, nat_lt, slice_index, refl}
+use Rattle.std.specs.Prelude.{◌≡◌, ℕ, zero, suc, ◌+◌, ◌<◌, ◌≤◌, Bool, true, false, cond, not, ◌&&◌, ◌||◌, List, length, nat_le, nat_lt, refl, ◌/◌, ◌^◌, set, ◌==◌, slice_index}
 use Rattle.std.proofs.Common.{sym, ap, subst, ◌∙◌, ⊎_elim, arith, length-set}
-use Rattle.std.proofs.lemmas.Bool.{lt-ltb, le-ltb, cases_Bool, cases_lt, cases_eq, and_left, and_right, both_ways, ne_eqb, le-leb, lt-leb, leb-true, eqb-true}
-use Rattle.facts.specs.Words.{has, insert, subset, without}
-use Rattle.facts.proofs.Sets.{has_common, has_without, subset_has}
-use Rattle.facts.proofs.Insert.{has_insert}
+use Rattle.std.proofs.lemmas.Bool.{cases_Bool, lt-ltb, le-ltb, leb-true, and_left, and_right, ne_eqb}
+use Rattle.facts.specs.Words.{has, subset, insert, without}
+use Rattle.facts.proofs.Sets.{subset_has, has_common, has_without}
 use Rattle.strips.specs.declared.action.Action.{Action}
-use Rattle.strips.specs.Semantics.{State, applicable}
-use Rattle.heuristic.specs.declared.estimate.Estimate.{Estimate}
+use Rattle.strips.specs.Semantics.{State}
+use Rattle.relaxed.specs.declared.graph.FactNode.{FactNode}
+use Rattle.relaxed.specs.Layers.{layer, new_fact}
+use Rattle.relaxed.specs.Plan.{last, first_wanted, relaxed_plan, helpful}
+use Rattle.relaxed.specs.Nodes.{node, wanted_first}
+use Rattle.relaxed.specs.Graph.{Graph, Fresh, Extracts}
+use Rattle.facts.proofs.Insert.{has_insert}
 use Rattle.heuristic.specs.declared.estimate.Estimate.TheVariants.{Steps, Never}
-use Rattle.strips.specs.Sound.{act, AllWithin}
+use Rattle.strips.specs.Sound.{AllWithin}
 use Rattle.heuristic.specs.Useful.{useful}
 use Rattle.heuristic.proofs.Preferring.{considered_false, considered_more}
 use Rattle.heuristic.specs.Words.{useful_same}
-use Rattle.relaxed.specs.declared.graph.FactNode.{FactNode}
-use Rattle.relaxed.specs.Layers.{layer, new_fact, first}
 use Rattle.relaxed.specs.Extract.{extracted, treated}
-use Rattle.relaxed.specs.Plan.{first_wanted, last, relaxed_plan, helpful}
-use Rattle.relaxed.specs.Nodes.{node, wanted_first}
-use Rattle.relaxed.specs.Graph.{Graph, Fresh, Extracts}
-use Rattle.relaxed.specs.Marking.{level_is}
-use Rattle.relaxed.specs.Firsts.{first_passes}
-use Rattle.relaxed.specs.Building.{layer_none}
+use Rattle.relaxed.proofs.Marking.{level_is}
+use Rattle.relaxed.specs.Growing.{layer_none, last_passes}
 
 pub plan_never : (acts : List Action) (goal s : State) → last acts goal s ≡ 257 → Never ≡ relaxed_plan acts goal s
 unfolding relaxed_plan
 plan_never acts goal s e = sym (ap (λ (t : ℕ). cond (nat_lt t 257) (Steps (extracted acts s goal t).count) Never) e)
-
-pub plan_steps : (acts : List Action) (goal s : State) (top r : ℕ) → last acts goal s ≡ top → top ≤ 256 → r ≡ (extracted acts s goal top).count → Steps r ≡ relaxed_plan acts goal s
-unfolding relaxed_plan
-plan_steps acts goal s top r e l h =
-    ap Steps h ∙ sym (ap (λ (b : Bool). cond b (Steps (extracted acts s goal top).count) Never) (lt-ltb top 257 (omega arith)))
-    ∙ sym (ap (λ (t : ℕ). cond (nat_lt t 257) (Steps (extracted acts s goal t).count) Never) e)
 
 pub helpful_never : (acts : List Action) (goal s : State) (k : ℕ) → last acts goal s ≡ 257 → false ≡ helpful acts goal s k
 unfolding helpful
@@ -66,13 +58,6 @@ helpful_some facts acts goal s top k r ns ns' set b z e l pos g h x w u =
     ∙ sym (has_first acts goal s top f))
     ∙ sym (ap (λ (y : Bool). y && useful acts s (first_wanted acts goal s top) k) (lt-ltb top 257 (omega arith)))
     ∙ sym (ap (λ (t : ℕ). nat_lt t 257 && useful acts s (first_wanted acts goal s t) k) e)
-
--- at layer 0 nothing is wanted at level 1
-pub last_passes : (acts : List Action) (goal s : State) (top : ℕ) → last acts goal s ≡ top → top < 257 → subset goal (layer acts s top) ≡ true
-unfolding last
-last_passes acts goal s top e l =
-    let p : ℕ → Bool = λ i. subset goal (layer acts s i) in
-    ap p (sym e) ∙ first_passes p 257 (omega arith)
 
 none_one : (acts : List Action) (s : State) (ns : List FactNode) → Graph acts s 0 ns → (f : ℕ) → f < 256 → ((node ns f).level == 1) ≡ false
 none_one acts s ns g f q =
