@@ -1,12 +1,12 @@
 -- A line is a command exactly where it is written as one.
-use Rattle.std.proofs.Common.{◌≡◌, ℕ, ◌<◌, ◌≤◌, Bool, cond, eqb, List, [], ◌∷◌, ◌++◌, length, Some, None, codes, Option, sym, refl, ap, ◌∙◌, ⊎_elim, arith, length-append}
+use Rattle.std.proofs.Common.{◌≡◌, ℕ, ◌<◌, ◌≤◌, cond, eqb, List, [], ◌∷◌, length, Some, None, Option, sym, refl, ⊎_elim, arith, length-append}
 use Rattle.std.proofs.lemmas.Bool.{cases_Bool, eqb-true}
 use Rattle.input_lines.specs.Cuts.{before, behind}
 use Rattle.input_lines.specs.Numbers.{numeral}
 use Rattle.input_lines.proofs.Cuts.{before_joined, behind_joined, rejoined}
 use Rattle.input_lines.proofs.Digits.{digits_lack, numeral_parts}
 use Rattle.console_lines.specs.declared.command.Command.{Command}
-use Rattle.console_lines.specs.declared.command.Command.TheVariants.{Plan, Step, Skip}
+use Rattle.console_lines.specs.declared.command.Command.TheVariants.{Step, Skip}
 use Rattle.console_lines.specs.Commands.{alone, both, budgets, command}
 use Rattle.console_lines.specs.Written.{Written, plan, step, skip}
 

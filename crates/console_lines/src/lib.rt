@@ -1,4 +1,6 @@
 // What the console reads and what it says: which command a line is, and the text of a reply.
+#![tactic(auto)]
+
 mod command;
 mod reply;
 

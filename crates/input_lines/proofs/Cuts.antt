@@ -2,7 +2,7 @@
 use Rattle.std.proofs.Common.{◌≡◌, ℕ, suc, ◌+◌, ◌<◌, ◌≤◌, Bool, cond, eqb, List, [], ◌∷◌, ◌++◌, length, get_or, take, drop, sym, refl, ap, ◌∙◌, ⊎_elim, append_assoc, append-nil, arith}
 use Rattle.std.proofs.lemmas.List.{at_drop_more, at_drop_all, take_more, take_all}
 use Rattle.std.proofs.lemmas.Bool.{cases_Bool, cond_both, eq-eqb, eqb-true, ne_eqb}
-use Rattle.std.specs.List.{AllByRecursion as All}
+use Rattle.std.specs.List.{AllByRecursion}
 use Rattle.input_lines.specs.Cuts.{before, behind}
 
 -- the first i bytes have no c: what is left gives both parts
@@ -68,10 +68,10 @@ rejoined c (b ∷ bs) some =
     (cases_Bool (eqb b c))
 
 -- what was put together, taken apart again
-pub before_joined : (c : ℕ) (xs ys : List ℕ) → All (λ b. b ≡ c → ⊥) xs → before c (xs ++ c ∷ ys) ≡ xs
+pub before_joined : (c : ℕ) (xs ys : List ℕ) → AllByRecursion (λ b. b ≡ c → ⊥) xs → before c (xs ++ c ∷ ys) ≡ xs
 before_joined c [] ys lacks = rw (eq-eqb c c refl)
 before_joined c (x ∷ xs) ys lacks = rw (ne_eqb x c lacks.0) (ap (λ (zs : List ℕ). x ∷ zs) (before_joined c xs ys lacks.1))
 
-pub behind_joined : (c : ℕ) (xs ys : List ℕ) → All (λ b. b ≡ c → ⊥) xs → behind c (xs ++ c ∷ ys) ≡ ys
+pub behind_joined : (c : ℕ) (xs ys : List ℕ) → AllByRecursion (λ b. b ≡ c → ⊥) xs → behind c (xs ++ c ∷ ys) ≡ ys
 behind_joined c [] ys lacks = rw (eq-eqb c c refl)
 behind_joined c (x ∷ xs) ys lacks = rw (ne_eqb x c lacks.0) (behind_joined c xs ys lacks.1)

@@ -3,7 +3,7 @@ use Rattle.std.proofs.Common.{◌≡◌, ℕ, suc, ◌+◌, ◌-◌, ◌*◌, �
 use native.Mathlib.Nat.{pow-le-pow_right, pow-succ'}
 use Rattle.std.proofs.lemmas.List.{at_drop_more, at_drop_all}
 use Rattle.std.proofs.lemmas.Bool.{and_from, and_left, and_parts, and_right, both_ways, cases_Bool, le-leb, leb-true}
-use Rattle.std.specs.List.{AllByRecursion as All}
+use Rattle.std.specs.List.{AllByRecursion}
 use Rattle.std.specs.Str.{all_ascii_digits}
 use Rattle.std.specs.Char.{is_ascii_digit}
 use Rattle.input_lines.specs.Numbers.{numeral, worth}
@@ -105,7 +105,7 @@ numeral_parts ds n e =
     (cases_Bool t)
 
 -- a byte that is no digit is in no list of digits
-pub digits_lack : (c : ℕ) (ds : List ℕ) → is_ascii_digit c ≡ false → all_ascii_digits ds ≡ true → All (λ b. b ≡ c → ⊥) ds
+pub digits_lack : (c : ℕ) (ds : List ℕ) → is_ascii_digit c ≡ false → all_ascii_digits ds ≡ true → AllByRecursion (λ b. b ≡ c → ⊥) ds
 digits_lack c [] is all = tt
 digits_lack c (d ∷ ds) is all =
     let parts = and_parts _ _ all in

@@ -1,7 +1,7 @@
 -- Lemmas on the lines of an input.
-use Rattle.std.proofs.Common.{◌≡◌, ℕ, ◌<◌, Bool, true, false, cond, eqb, ◌⊎◌, List, [], ◌∷◌, ◌++◌, length, sym, refl, ap, ◌∙◌, inl, inr, ⊎_elim, append_assoc, arith, length-append}
+use Rattle.std.proofs.Common.{◌≡◌, ℕ, ◌<◌, Bool, true, false, cond, eqb, ◌⊎◌, List, [], ◌∷◌, ◌++◌, length, refl, ap, ◌∙◌, inl, inr, ⊎_elim, append_assoc, arith, length-append}
 use Rattle.std.proofs.lemmas.Bool.{cond_both, eqb-true, eqb-false, ne_eqb}
-use Rattle.std.specs.List.{flat_map, AllByRecursion as All}
+use Rattle.std.specs.List.{flat_map, AllByRecursion}
 use Rattle.input_lines.specs.Cuts.{before, behind}
 use Rattle.input_lines.specs.Lines.{ended, First, lines, onto, Whole, EndedLines, OpenLastLine, WholeLines, NothingElse}
 use Rattle.input_lines.proofs.Cuts.{behind_lt}
@@ -51,14 +51,14 @@ open_last_line (m ∷ ls) l w v some =
     ∙ lines_line m (flat_map ended ls ++ l) w.0
     ∙ ap (λ (ms : List (List ℕ)). m ∷ ms) (open_last_line ls l w.1 v some)
 
-whole_onto : (b : ℕ) (ls : List (List ℕ)) → (b ≡ 10 → ⊥) → All Whole ls → All Whole (onto b ls)
+whole_onto : (b : ℕ) (ls : List (List ℕ)) → (b ≡ 10 → ⊥) → AllByRecursion Whole ls → AllByRecursion Whole (onto b ls)
 whole_onto b [] differs w = ((differs, tt), tt)
 whole_onto b (l ∷ ls) differs w = ((differs, w.0), w.1)
 
 pub whole_lines : WholeLines
 whole_lines [] = tt
 whole_lines (b ∷ bs) =
-    cond_both (eqb b 10) ([] ∷ lines bs) (onto b (lines bs)) (All Whole) (λ e. (tt, whole_lines bs)) (λ e. whole_onto b (lines bs) (eqb-false b 10 e) (whole_lines bs))
+    cond_both (eqb b 10) ([] ∷ lines bs) (onto b (lines bs)) (AllByRecursion Whole) (λ e. (tt, whole_lines bs)) (λ e. whole_onto b (lines bs) (eqb-false b 10 e) (whole_lines bs))
 
 -- the lines ls make up bs, the last one ended or not
 abbrev Makes : List (List ℕ) → List ℕ → Type 0

@@ -1,6 +1,6 @@
 -- Lines of an input.
 use Rattle.std.specs.Prelude.{◌≡◌, ℕ, ◌<◌, cond, ◌⊎◌, List, [], ◌∷◌, ◌++◌, length, ◌==◌, ◌≢◌}
-use Rattle.std.specs.List.{flat_map, AllByRecursion as All}
+use Rattle.std.specs.List.{flat_map, AllByRecursion}
 use Rattle.input_lines.specs.Cuts.{before, behind}
 
 -- a byte in front of the first line
@@ -22,7 +22,7 @@ pub record First (input line rest : List ℕ) : Type 0 where
 
 -- a line has no line end inside
 abbrev pub Whole : List ℕ → Type 0
-Whole l = All (λ b. b ≢ 10) l
+Whole l = AllByRecursion (λ b. b ≢ 10) l
 
 -- a line with its line end
 abbrev pub ended : List ℕ → List ℕ
@@ -30,14 +30,14 @@ ended l = l ++ 10 ∷ []
 
 -- lines that are all ended are the lines of what they make up: nothing after the last line end is no line
 abbrev pub EndedLines : Type 0
-EndedLines = (ls : List (List ℕ)) → All Whole ls → lines (flat_map ended ls) ≡ ls
+EndedLines = (ls : List (List ℕ)) → AllByRecursion Whole ls → lines (flat_map ended ls) ≡ ls
 
 -- the last line needs no line end, unless it is empty
 abbrev pub OpenLastLine : Type 0
-OpenLastLine = (ls : List (List ℕ)) (l : List ℕ) → All Whole ls → Whole l → 0 < length l → lines (flat_map ended ls ++ l) ≡ ls ++ l ∷ []
+OpenLastLine = (ls : List (List ℕ)) (l : List ℕ) → AllByRecursion Whole ls → Whole l → 0 < length l → lines (flat_map ended ls ++ l) ≡ ls ++ l ∷ []
 
 abbrev pub WholeLines : Type 0
-WholeLines = (bs : List ℕ) → All Whole (lines bs)
+WholeLines = (bs : List ℕ) → AllByRecursion Whole (lines bs)
 
 -- every input is made up of its lines, each ended, or each but the last
 abbrev pub NothingElse : Type 0

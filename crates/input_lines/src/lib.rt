@@ -1,4 +1,6 @@
 // The lines of an input, and the numbers in them, as every program here reads them.
+#![tactic(auto)]
+
 mod cutting;
 mod laws;
 mod lines;

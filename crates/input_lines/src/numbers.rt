@@ -5,6 +5,7 @@ ghost use Rattle.input_lines.specs.Numbers.{numeral};
 const MOST_DIGITS: usize = 7;
 
 // The number that one to seven digits write.
+#[tactic(auto, using(crate::proofs::Digits::digits_none, crate::proofs::Digits::digit_fits, crate::proofs::Digits::digit_stop, crate::proofs::Digits::digits_end))]
 pub fn number(text: &[u8]) -> Option<u32>
     ensures { result ≡ numeral text.now }
 {
