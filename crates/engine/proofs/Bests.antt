@@ -1,7 +1,7 @@
 -- What the best-first search keeps of its tables.
-use Rattle.std.proofs.Common.{◌≡◌, ℕ, suc, ◌+◌, ◌<◌, ◌≤◌, Bool, true, false, List, [], ◌∷◌, ◌++◌, length, Ok, Err, Result, sym, refl, ap, ◌∙◌, subst, arith}
+use Rattle.std.proofs.Common.{◌≡◌, ℕ, ◌+◌, ◌<◌, ◌≤◌, Bool, List, [], ◌∷◌, length, Ok, Err, Result, sym, ap, ◌∙◌, subst, arith}
 use Rattle.std.specs.List.Sorted.{IsPermutation}
-use Rattle.std.specs.List.{AllByRecursion as All}
+use Rattle.std.specs.List.{AllByRecursion}
 use Rattle.std.proofs.ByRecursion.{All-weaker, all_shuffled}
 use Rattle.std.proofs.lemmas.List.Sorted.{length_permutation}
 use Rattle.strips.specs.Semantics.{State}
@@ -9,15 +9,14 @@ use Rattle.facts.specs.declared.set.FactSet.{FactSet}
 use Rattle.open_list.specs.declared.entry.Entry.{Entry}
 use Rattle.closed_list.specs.declared.row.Row.{Row}
 use Rattle.heuristic.specs.declared.estimate.Estimate.{Estimate}
-use Rattle.heuristic.specs.declared.estimate.Estimate.TheVariants.{Steps, Never}
+use Rattle.heuristic.specs.declared.estimate.Estimate.TheVariants.{Steps}
 use Rattle.engine.specs.declared.model.Reply.{Reply}
 use Rattle.engine.specs.declared.model.Reply.TheVariants.{Going, Goal, Full}
-use Rattle.engine.specs.declared.model.Step.TheVariants as steps
 use Rattle.closed_list.specs.Rows.{row}
 use Rattle.bounded_heap.specs.Waiting.{Put}
 use Rattle.strips.specs.declared.action.Action.{Action}
-use Rattle.engine.specs.Generation.{Setting, setting, Generates, root, first_row}
-use Rattle.engine.specs.BestFirst.{entry, Considers, passed, full, reached, never, waits, Expanding, start, more, Stopped, Expands, Turn, Explored, begin, turn, Good}
+use Rattle.engine.specs.Generation.{Setting, setting, root, first_row}
+use Rattle.engine.specs.BestFirst.{entry, Considers, passed, full, reached, never, waits, Expanding, start, more, Expands, Turn, Explored, begin, turn, Good}
 use Rattle.engine.specs.Answers.{Answer, Searched}
 use Rattle.engine.proofs.Trees.{Tree, Grown, row_grown, root_tree, gen_grown, gen_longer, gen_new}
 
@@ -51,13 +50,13 @@ expanding_all q i r rows₀ w₀ k rows w x e = subst (λ n. Expanding q i r row
 pub record Kept (q : Setting) (s : State) (i : ℕ) (r : Row) (rows : List Row) (w : List Entry) : Type 0 where
   pub grown : Grown q s i r rows
   pub fewer : length w < length rows
-  pub entries : All (λ e. e.row < length rows) w
+  pub entries : AllByRecursion (λ e. e.row < length rows) w
 
-longer_entries : (rows rows' : List Row) (w : List Entry) → length rows ≤ length rows' → All (λ e. e.row < length rows) w → All (λ e. e.row < length rows') w
+longer_entries : (rows rows' : List Row) (w : List Entry) → length rows ≤ length rows' → AllByRecursion (λ e. e.row < length rows) w → AllByRecursion (λ e. e.row < length rows') w
 longer_entries rows rows' w le a = All-weaker _ _ (λ e l. omega arith) w a
 
 one_entries : {q : Setting} {i : ℕ} {r : Row} {k : ℕ} {rows : List Row} {w : List Entry} {y : Reply} {rows' : List Row} {w' : List Entry}
-    → Considers q i r k rows w y rows' w' → All (λ e. e.row < length rows) w → All (λ e. e.row < length rows') w'
+    → Considers q i r k rows w y rows' w' → AllByRecursion (λ e. e.row < length rows) w → AllByRecursion (λ e. e.row < length rows') w'
 one_entries {rows = rows} {w = w} (passed {rows' = rows'} g) a = longer_entries rows rows' w (gen_longer g) a
 one_entries {rows = rows} {w = w} (full {rows' = rows'} g) a = longer_entries rows rows' w (gen_longer g) a
 one_entries {rows = rows} {w = w} (reached {rows' = rows'} g) a = longer_entries rows rows' w (gen_longer g) a
@@ -91,7 +90,7 @@ expands_kept q s i r rows₀ w₀ Full rows w x h = one_kept x.last x.within (ex
 pub record Sound (q : Setting) (s : State) (rows : List Row) (w : List Entry) : Type 0 where
   pub tree : Tree q s rows
   pub fewer : length w ≤ length rows
-  pub entries : All (λ e. e.row < length rows) w
+  pub entries : AllByRecursion (λ e. e.row < length rows) w
 
 pub sound_good : {q : Setting} {s : State} {rows : List Row} {w : List Entry} → Sound q s rows w → Good rows w
 sound_good h = record { fewer = h.fewer; entries = h.entries; near = h.tree.near }
@@ -100,7 +99,7 @@ pub record Taken (rows : List Row) (e : Entry) (rest : List Entry) : Type 0 wher
   pub there : e.row < length rows
   pub near : (row rows e.row).distance < length rows
   pub fewer : length rest < length rows
-  pub entries : All (λ e. e.row < length rows) rest
+  pub entries : AllByRecursion (λ e. e.row < length rows) rest
 
 -- one entry taken
 pub good_taken : (rows : List Row) (w : List Entry) (e : Entry) (rest : List Entry) → Good rows w → IsPermutation w (e ∷ rest) → Taken rows e rest

@@ -1,5 +1,5 @@
 -- The first check that fails, from the tests that the code makes.
-use Rattle.std.proofs.Common.{◌≡◌, ℕ, Bool, true, false, ◌&&◌, IfOk, Some, Ok, Err, Result, sym, ap, ◌∙◌}
+use Rattle.std.proofs.Common.{◌≡◌, ℕ, true, false, ◌&&◌, IfOk, Some, Ok, Err, Result, sym, ap, ◌∙◌}
 use Rattle.facts.specs.Checks.{or_else, unless}
 use Rattle.facts.specs.Words.{subset}
 use Rattle.strips.specs.Semantics.{State}

@@ -1,29 +1,27 @@
 -- With places and budget for all states that are reached, a plan call decides; its counts are within the budgets, and its list is short.
-use Rattle.std.proofs.Common.{◌≡◌, ℕ, zero, suc, ◌+◌, ◌<◌, ◌≤◌, ◌⊎◌, List, [], ◌∷◌, ◌++◌, map, length, get_or, Option, sym, refl, ap, ◌∙◌, subst, inl, inr, arith, length-append}
+use Rattle.std.proofs.Common.{◌≡◌, ℕ, zero, suc, ◌+◌, ◌<◌, ◌≤◌, List, [], ◌∷◌, map, length, get_or, Option, sym, refl, ap, ◌∙◌, subst, inl, inr, arith, length-append}
 use lib.ListN.{length-map, get_or-map}
 use Rattle.std.proofs.lemmas.List.Sorted.{length_permutation}
 use Rattle.std.specs.declared.option.Option.TheVariants as options
-use Rattle.strips.specs.Semantics.{State, result}
+use Rattle.strips.specs.Semantics.{State}
 use Rattle.open_list.specs.declared.entry.Entry.{Entry}
 use Rattle.closed_list.specs.declared.row.Row.{Row}
-use Rattle.engine.specs.declared.model.Reply.{Reply}
-use Rattle.engine.specs.declared.model.Reply.TheVariants.{Going, Goal, Full}
-use Rattle.strips.specs.Sound.{act}
-use Rattle.engine.specs.Reach.{Can, AtMost}
+use Rattle.engine.specs.declared.model.Reply.TheVariants.{Full}
+use Rattle.engine.specs.Reach.{AtMost}
 use Rattle.strips.specs.Semantics.{Reaches, here, onward}
-use Rattle.closed_list.specs.Rows.{row, no_row, At, Absent, Different}
+use Rattle.closed_list.specs.Rows.{row, no_row}
 use Rattle.engine.specs.Paths.{back, path}
-use Rattle.engine.specs.Generation.{Setting, child, child_row, Generates, no_place}
+use Rattle.engine.specs.Generation.{Setting, child_row, no_place}
 use Rattle.engine.specs.BestFirst as best
 use Rattle.engine.specs.BestFirst.{Considers, full, Expanding, more, Explored, begin, turn}
 use Rattle.engine.specs.HillClimbing as hills
 use Rattle.engine.specs.HillClimbing.{Hill, on, Climbs, done, failed, too_long, longest}
-use Rattle.engine.specs.Answers.{Answer, Searched, exhausted, out_of_budget, met_full, found, MayAnswer, at_goal, hopeless, climbed, fell_back, Decides, Short}
+use Rattle.engine.specs.Answers.{Answer, Searched, exhausted, out_of_budget, met_full, found, at_goal, hopeless, climbed, fell_back, Decides, Short}
 use Rattle.engine.specs.Theorems.{AnswersDecided, AnswersCounted, AnswersShort}
 use Rattle.closed_list.proofs.Pushed.{length_push}
-use Rattle.engine.proofs.Trees.{Tree, Link, First, Grown, grown_push}
+use Rattle.engine.proofs.Trees.{Tree, Grown, grown_push}
 use Rattle.engine.proofs.Bests.{one_slack, turn_kept, turn_sound, turn_found, run_sound, run_counted, expand_kept}
-use Rattle.engine.proofs.Hills.{leg_tree, leg_better, leg_counted, hill_counted}
+use Rattle.engine.proofs.Hills.{leg_counted, hill_counted}
 
 module _ (q : Setting) (s : State) (rows : List Row) (t : Tree q s rows) where
   tree_reaches : (d j : ℕ) → j < length rows → (row rows j).distance ≡ d → Reaches q.acts s (row rows j).state.words

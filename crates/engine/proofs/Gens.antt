@@ -1,14 +1,13 @@
 -- The constructors of `Generates` at the values that the code computes.
-use Rattle.std.proofs.Common.{◌≡◌, ℕ, ◌+◌, ◌<◌, ◌≤◌, Bool, true, false, List, [], ◌∷◌, ◌++◌, length, Ok, Err, Result, sym, refl, ap, ◌∙◌, subst, arith}
+use Rattle.std.proofs.Common.{◌≡◌, ℕ, ◌+◌, ◌<◌, Bool, true, false, List, [], ◌∷◌, ◌++◌, length, Ok, Err, Result, sym, ap, ◌∙◌, subst, arith}
 use Rattle.facts.specs.declared.set.FactSet.{FactSet}
-use Rattle.strips.specs.Semantics.{State}
 use Rattle.closed_list.specs.declared.row.Row.{Row}
 use Rattle.heuristic.specs.declared.estimate.Estimate.{Estimate}
 use Rattle.closed_list.specs.declared.row.Refusal.{Refusal}
 use Rattle.closed_list.specs.declared.row.Refusal.TheVariants as refusals
 use Rattle.engine.specs.declared.model.Step.TheVariants.{Passed, Full, Entered}
 use Rattle.closed_list.specs.Rows.{At, Absent, row, Enter, Read}
-use Rattle.engine.specs.Generation.{Setting, fits, child, child_row, root, Generates, cannot, known, no_place, enters}
+use Rattle.engine.specs.Generation.{Setting, fits, child, child_row, Generates, known, no_place, enters}
 
 abbrev pub entered : ℕ → Row → ℕ → FactSet → Estimate → Row
 entered i r k s x = record { state = s; parent = i; action = k; distance = r.distance + 1; estimate = x }

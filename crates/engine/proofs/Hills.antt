@@ -1,22 +1,22 @@
 -- What the hill phase keeps.
-use Rattle.std.proofs.Common.{◌≡◌, ℕ, suc, ◌+◌, ◌<◌, ◌≤◌, Bool, true, false, ◌||◌, List, [], ◌∷◌, ◌++◌, length, IfSome, Option, sym, refl, ap, ◌∙◌, subst, arith}
+use Rattle.std.proofs.Common.{◌≡◌, ℕ, ◌+◌, ◌<◌, ◌≤◌, Bool, true, false, ◌||◌, List, [], ◌∷◌, ◌++◌, length, IfSome, Option, sym, refl, ap, ◌∙◌, subst, arith}
 use Rattle.strips.specs.Semantics.{State}
 use Rattle.strips.specs.declared.action.Action.{Action}
 use Rattle.facts.specs.declared.set.FactSet.{FactSet}
 use Rattle.closed_list.specs.declared.row.Row.{Row}
 use Rattle.heuristic.specs.declared.estimate.Estimate.{Estimate}
-use Rattle.heuristic.specs.declared.estimate.Estimate.TheVariants.{Steps, Never}
+use Rattle.heuristic.specs.declared.estimate.Estimate.TheVariants.{Steps}
 use Rattle.engine.specs.declared.model.Rise.{Rise}
-use Rattle.engine.specs.declared.model.Rise.TheVariants.{Going, Better, Full}
+use Rattle.engine.specs.declared.model.Rise.TheVariants.{Better}
 use Rattle.engine.specs.declared.model.End.{End}
 use Rattle.engine.specs.declared.model.End.TheVariants as ends
 use Rattle.std.specs.declared.option.Option.TheVariants as options
 use Rattle.closed_list.specs.Rows.{row}
 use Rattle.engine.specs.Paths.{path}
-use Rattle.engine.specs.Generation.{Setting, setting, Generates, root, first_row}
+use Rattle.engine.specs.Generation.{Setting, setting, root, first_row}
 use Rattle.engine.specs.HillClimbing as hills
 use Rattle.engine.specs.HillClimbing.{Closes, Fails, Hill, on, Climbs, failed, too_long, done, longest, listed, tries, Tried, barred, passed, full, never, worse, better, Climb, more, Stops, Tops, over, stopped, Stretch, begin, skip, turn, Ended, ran_out, spent, met_full, climbed, Leg, once, again}
-use Rattle.engine.proofs.Trees.{Tree, Grown, row_grown, grown_near, root_tree, gen_grown, gen_longer, gen_new}
+use Rattle.engine.proofs.Trees.{Tree, Grown, row_grown, root_tree, gen_grown, gen_longer, gen_new}
 
 module _ {q : Setting} {all : Bool} {bound : ℕ} {i : ℕ} {r : Row} where
   pub tried_longer : {k : ℕ} {rows : List Row} {y : Rise} {rows' : List Row} → Tried q all bound i r k rows y rows' → length rows ≤ length rows'

@@ -1,5 +1,5 @@
 -- A plan that a call answers is one, and where it answers none there is none.
-use Rattle.std.proofs.Common.{◌≡◌, ℕ, zero, suc, ◌+◌, ◌<◌, ◌≤◌, Bool, true, false, ◌⊎◌, List, [], ◌∷◌, ◌++◌, length, get_or, sym, refl, ap, ◌∙◌, subst, inl, inr, arith}
+use Rattle.std.proofs.Common.{◌≡◌, ℕ, zero, suc, ◌+◌, ◌<◌, Bool, true, false, ◌⊎◌, List, [], ◌∷◌, ◌++◌, length, get_or, sym, refl, ap, ◌∙◌, subst, inl, inr, arith}
 use native.Mathlib.Decide.{dec_lt}
 use Rattle.std.specs.List.Sorted.{IsPermutation}
 use Rattle.std.specs.List.{ContainsAt as Has}
@@ -13,23 +13,22 @@ use Rattle.open_list.specs.declared.entry.Entry.{Entry}
 use Rattle.closed_list.specs.declared.row.Row.{Row}
 use Rattle.heuristic.specs.declared.estimate.Estimate.{Estimate}
 use Rattle.heuristic.specs.declared.estimate.Estimate.TheVariants.{Steps, Never}
-use Rattle.engine.specs.declared.model.Reply.{Reply}
-use Rattle.engine.specs.declared.model.Reply.TheVariants.{Going, Goal, Full}
+use Rattle.engine.specs.declared.model.Reply.TheVariants.{Going}
 use Rattle.strips.specs.Sound.{act}
 use Rattle.engine.specs.Reach.{Can}
 use Rattle.heuristic.specs.Laws.{Asked, Laws}
-use Rattle.closed_list.specs.Rows.{row, no_row, At, Absent, Different}
+use Rattle.closed_list.specs.Rows.{row, At}
 use Rattle.engine.specs.Paths.{back, path}
-use Rattle.engine.specs.Generation.{Setting, posed, fits, child, child_row, Generates, cannot, known, no_place, enters, root}
+use Rattle.engine.specs.Generation.{Setting, posed, fits, child, child_row, cannot, known, root}
 use Rattle.engine.specs.BestFirst as best
 use Rattle.engine.specs.BestFirst.{entry, Considers, passed, full, reached, never, waits, Expanding, more, Stopped, Expands, Turn, begin, turn}
 use Rattle.engine.specs.HillClimbing as hills
 use Rattle.engine.specs.HillClimbing.{Hill, on, Climbs, done}
-use Rattle.engine.specs.Answers.{Answer, plan, none, spent, Searched, exhausted, out_of_budget, met_full, found, MayAnswer, at_goal, hopeless, climbed, fell_back, Plans, Excludes}
+use Rattle.engine.specs.Answers.{Answer, Searched, exhausted, out_of_budget, met_full, found, at_goal, hopeless, climbed, fell_back, Plans, Excludes}
 use Rattle.engine.specs.Theorems.{AnswersNone, AnswersPlans, HillsRun}
 use Rattle.closed_list.proofs.Pushed.{each_push, length_push, row_new, row_old}
-use Rattle.engine.proofs.Trees.{Tree, Link, First, Grown, Entering, gen_entering}
-use Rattle.engine.proofs.Bests.{Kept, turn_kept, turn_sound, turn_found, run_sound, expand_kept}
+use Rattle.engine.proofs.Trees.{Tree, Grown, gen_entering}
+use Rattle.engine.proofs.Bests.{turn_kept, turn_sound, turn_found, run_sound, expand_kept}
 use Rattle.engine.proofs.Hills.{leg_tree, leg_better, hill_told}
 
 -- the path of a row runs from the first state to the row's

@@ -1,9 +1,9 @@
 -- The way back from a row, written from its end.
-use Rattle.std.proofs.Common.{◌≡◌, ℕ, zero, suc, ◌+◌, ◌-◌, ◌<◌, ◌≤◌, List, [], ◌∷◌, ◌++◌, length, get_or, take, drop, set, sym, refl, ap, ◌∙◌, subst, append_assoc, append-nil, arith, length-set, drop_of_length-le, length-take, drop-cons, get_or-set_same, drop-set-lt}
+use Rattle.std.proofs.Common.{◌≡◌, ℕ, zero, suc, ◌-◌, ◌<◌, ◌≤◌, List, [], ◌∷◌, ◌++◌, length, take, drop, set, sym, ap, ◌∙◌, subst, append_assoc, append-nil, arith, length-set, drop_of_length-le, length-take, drop-cons, get_or-set_same, drop-set-lt}
 use lib.Seq.{take-set-lt}
 use Rattle.closed_list.specs.declared.row.Row.{Row}
 use Rattle.closed_list.specs.Rows.{row}
-use Rattle.engine.specs.Paths.{back, path}
+use Rattle.engine.specs.Paths.{back}
 
 pub trace_start : (rows : List Row) (r : Row) (n : ℕ) (out p : List ℕ) → back rows n r ≡ p → back rows n r ++ drop n (take n out) ≡ p
 trace_start rows r n out p e =

@@ -1,16 +1,16 @@
 -- The rows of either phase hang together, by what one action keeps.
-use Rattle.std.proofs.Common.{◌≡◌, ℕ, zero, suc, ◌+◌, ◌<◌, ◌≤◌, true, false, ◌⊎◌, List, [], ◌∷◌, ◌++◌, length, sym, refl, ap, ◌∙◌, subst, inl, inr, arith}
+use Rattle.std.proofs.Common.{◌≡◌, ℕ, ◌+◌, ◌<◌, ◌≤◌, ◌⊎◌, List, [], ◌∷◌, ◌++◌, length, sym, refl, ap, ◌∙◌, subst, inl, inr, arith}
 use Rattle.strips.specs.Semantics.{State, result}
 use Rattle.closed_list.specs.declared.row.Row.{Row}
 use Rattle.heuristic.specs.declared.estimate.Estimate.{Estimate}
 use Rattle.engine.specs.declared.model.Step.{Step}
-use Rattle.engine.specs.declared.model.Step.TheVariants.{Passed, Full, Entered}
+use Rattle.engine.specs.declared.model.Step.TheVariants.{Entered}
 use Rattle.strips.specs.Sound.{act}
 use Rattle.engine.specs.Reach.{Can}
 use Rattle.closed_list.specs.Rows.{row, At, Absent, Different}
 use Rattle.closed_list.proofs.Differ.{different_push}
 use Rattle.closed_list.proofs.Pushed.{each_push, length_push, row_new, row_old}
-use Rattle.engine.specs.Generation.{Setting, fits, child, child_row, root, Generates, cannot, known, no_place, enters}
+use Rattle.engine.specs.Generation.{Setting, child, child_row, root, Generates, cannot, known, no_place, enters}
 
 -- row r comes from row r .parent by its action
 pub record Link (q : Setting) (rows : List Row) (r : Row) : Type 0 where

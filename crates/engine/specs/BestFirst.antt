@@ -1,7 +1,7 @@
 -- What the best-first phase may do. Which waiting entry is taken is left open; all else is fixed.
-use Rattle.std.specs.Prelude.{◌≡◌, ℕ, ◌+◌, ◌<◌, ◌≤◌, List, [], ◌∷◌, ◌++◌, length}
+use Rattle.std.specs.Prelude.{◌≡◌, ℕ, ◌+◌, ◌<◌, ◌≤◌, List, [], ◌∷◌, length}
 use Rattle.std.specs.List.Sorted.{IsPermutation}
-use Rattle.std.specs.List.{AllByRecursion as All}
+use Rattle.std.specs.List.{AllByRecursion}
 use Rattle.strips.specs.Semantics.{State}
 use Rattle.open_list.specs.declared.entry.Entry.{Entry}
 use Rattle.closed_list.specs.declared.row.Row.{Row}
@@ -58,5 +58,5 @@ pub data Explored (q : Setting) (budget : ℕ) (s : State) : List Row → List E
 -- what the tables keep: numbers of rows are in range, and a row's distance is at most its number
 pub record Good (rows : List Row) (w : List Entry) : Type 0 where
   pub fewer : length w ≤ length rows
-  pub entries : All (λ e. e.row < length rows) w
+  pub entries : AllByRecursion (λ e. e.row < length rows) w
   pub near : (j : ℕ) → j < length rows → (row rows j).distance ≤ j

@@ -1,5 +1,5 @@
 -- The checks of a plan call, in their order, and the number of each refusal.
-use Rattle.std.specs.Prelude.{ℕ, not, ◌&&◌, List, Option, ◌==◌, nat_le}
+use Rattle.std.specs.Prelude.{ℕ, not, ◌&&◌, Option, ◌==◌, nat_le}
 use Rattle.facts.specs.Checks.{or_else, unless}
 use Rattle.facts.specs.Words.{subset}
 use Rattle.strips.specs.Semantics.{State}

@@ -1,5 +1,5 @@
 -- One action of a row, the step that both phases are made of.
-use Rattle.std.specs.Prelude.{◌≡◌, ℕ, ◌+◌, ◌<◌, ◌≤◌, Bool, true, false, List, [], ◌∷◌, ◌++◌, length, Some, None, Option}
+use Rattle.std.specs.Prelude.{◌≡◌, ℕ, ◌+◌, ◌<◌, Bool, true, false, List, [], ◌∷◌, ◌++◌, length, Some, None, Option}
 use Rattle.facts.specs.declared.set.FactSet.{FactSet}
 use Rattle.strips.specs.declared.action.Action.{Action}
 use Rattle.strips.specs.Semantics.{State, applicable, result}
@@ -8,7 +8,7 @@ use Rattle.heuristic.specs.declared.estimate.Estimate.{Estimate}
 use Rattle.engine.specs.declared.model.Step.{Step}
 use Rattle.engine.specs.declared.model.Step.TheVariants.{Passed, Full, Entered}
 use Rattle.strips.specs.Sound.{act}
-use Rattle.closed_list.specs.Rows.{row, At, Absent}
+use Rattle.closed_list.specs.Rows.{At, Absent}
 
 -- the task as both phases see it: each state's estimate and preferred actions, the actions, the places of the store
 pub record Setting : Type 0 where

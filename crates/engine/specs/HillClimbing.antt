@@ -8,7 +8,6 @@ use Rattle.engine.specs.declared.model.Rise.{Rise}
 use Rattle.engine.specs.declared.model.Rise.TheVariants.{Going, Better, Full}
 use Rattle.engine.specs.declared.model.End.{End}
 use Rattle.engine.specs.declared.model.End.TheVariants as ends
-use Rattle.heuristic.specs.declared.estimate.Estimate.{Estimate}
 use Rattle.heuristic.specs.declared.estimate.Estimate.TheVariants.{Steps, Never}
 use Rattle.closed_list.specs.Rows.{row}
 use Rattle.engine.specs.Paths.{path}

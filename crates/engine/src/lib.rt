@@ -1,4 +1,6 @@
 // Planning: enforced hill-climbing, then best-first, over every estimator, open list and closed list.
+#![tactic(auto)]
+
 mod best_first;
 mod claims;
 mod hill_climbing;

@@ -2,7 +2,7 @@
 ghost use Rattle.std.specs.Prelude.{◌≡◌, ℕ, ◌+◌, ◌^◌, ◌<◌, ◌≤◌, [], ◌∷◌, length, take};
 ghost use Rattle.engine.specs.Generation.{Generates, Successor, first_row, posed};
 ghost use Rattle.closed_list.specs.Rows.{row as row_at};
-ghost use Rattle.engine.specs.Paths.{path as pathTo};
+ghost use Rattle.engine.specs.Paths.{path as path_to};
 
 use crate::model::Step;
 use closed_list::{Row, Store};
@@ -91,7 +91,7 @@ pub(crate) fn write_path<S: Store>(store: &S, j: u16, out: &mut [u16]) -> u16
     requires there { j < length (S.Store.rows store.now) }
     requires parents { (i : ℕ) → i < length (S.Store.rows store.now) → (row_at (S.Store.rows store.now) i).parent < length (S.Store.rows store.now) }
     requires fits { (row_at (S.Store.rows store.now) j).distance ≤ length out.old }
-    ensures path { take result out.new ≡ pathTo (S.Store.rows store.now) j }
+    ensures path { take result out.new ≡ path_to (S.Store.rows store.now) j }
     ensures far { result ≡ (row_at (S.Store.rows store.now) j).distance }
 {
     let mut at = blank();

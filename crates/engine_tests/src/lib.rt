@@ -1,4 +1,6 @@
 // Tests of the plan call, apart from the engine, since a crate with tests is proved twice.
+#![tactic(auto)]
+
 #[cfg(test)]
 mod long_lists;
 #[cfg(test)]

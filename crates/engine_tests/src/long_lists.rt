@@ -2,7 +2,7 @@ use crate::yards::{case, check_calls, lift, task_of};
 use engine::Verdict;
 use heuristic::GoalCount;
 use open_list::Queue;
-use std::test::*;
+use std::test::Fail;
 use strips::{Action, Task};
 
 const BITS: [u8; 12] = [0, 1, 2, 3, 4, 5, 6, 7, 8, 9, 10, 11];

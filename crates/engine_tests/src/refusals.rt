@@ -4,7 +4,7 @@ use engine::{LONGEST, plan};
 use heuristic::{Estimate, GoalCount};
 use open_list::{Entry, Frontier, Queue};
 use std::process::Abort;
-use std::test::*;
+use std::test::Fail;
 use strips::Task;
 
 // A call from and to these facts, the places of its tables, its budgets, and the number under which it is refused.

@@ -4,7 +4,7 @@ use heuristic::GoalCount;
 use open_list::Queue;
 use ordered_open_list::GreedyFrontier;
 use relaxed::RelaxedGraph;
-use std::test::*;
+use std::test::Fail;
 use weights::Weights;
 
 #[test]

@@ -5,7 +5,8 @@ use facts::FactSet;
 use heuristic::Estimator;
 use open_list::Frontier;
 use ordered_open_list::WeightedFrontier;
-use std::test::*;
+use std::process::Abort;
+use std::test::Fail;
 use strips::{Action, Task};
 
 // A plan call, and what it is to answer.
@@ -88,25 +89,24 @@ pub fn case(
 }
 
 // The list stands at the front where there is a plan, and all else in the buffer is as it was.
-fn check_buffer(buffer: &[u16], list: &[u16], verdict: Verdict) -> Result<(), Fail> {
+fn check_buffer(rt: &impl Abort, buffer: &[u16], list: &[u16], verdict: Verdict) {
     let mut len = 0;
     if let Verdict::Plan(count) = verdict {
-        assert_eq!(usize::from(count), list.len());
+        assert_eq!(rt; usize::from(count), list.len());
         len = list.len();
     }
     for (i, left) in buffer.iter().enumerate() {
         if i < len {
-            assert_eq!(*left, list[i]);
+            assert_eq!(rt; *left, list[i]);
         } else {
-            assert_eq!(*left, MARK);
+            assert_eq!(rt; *left, MARK);
         }
     }
-    Ok(())
 }
 
 // Makes the calls; `list` is what those that answer plan find.
 pub fn check_calls<E: Estimator, F: Frontier>(
-    rt: &HostRuntime,
+    rt: &(impl Abort + AllocGlobal),
     task: &Task,
     estimator: &mut E,
     frontier: &mut F,
@@ -127,17 +127,17 @@ pub fn check_calls<E: Estimator, F: Frontier>(
             case.fallback,
             &mut buffer,
         )?;
-        assert_eq!(verdict, case.verdict);
-        assert_eq!(climbed, case.climbed);
-        assert_eq!(tried, case.tried);
-        check_buffer(&buffer, list, verdict)?;
+        assert_eq!(rt; verdict, case.verdict);
+        assert_eq!(rt; climbed, case.climbed);
+        assert_eq!(rt; tried, case.tried);
+        check_buffer(rt, &buffer, list, verdict);
     }
     Ok(())
 }
 
 // With the weighted frontier.
 pub fn check_weighted<E: Estimator>(
-    rt: &HostRuntime,
+    rt: &(impl Abort + AllocGlobal),
     task: &Task,
     estimator: &mut E,
     list: &[u16],

@@ -1,4 +1,4 @@
-use Rattle.std.proofs.Common.{◌≡◌, ◌<◌, ◌≤◌, length, vec_items}
+use Rattle.std.proofs.Common.{◌≡◌, ◌<◌, length, vec_items}
 use Rattle.engine.specs.Generation.{posed}
 use Rattle.engine.specs.BestFirst.{Expanding}
 use Rattle.engine.proofs.best_first.expand.Given as goal

@@ -1,4 +1,4 @@
-use Rattle.std.proofs.Common.{◌≡◌, ◌<◌, List, [], ◌∷◌, length, sym, refl, ap, ◌∙◌, subst, arith}
+use Rattle.std.proofs.Common.{◌≡◌, ◌<◌, ◌∷◌, length, ap, ◌∙◌, subst, arith}
 use Rattle.std.specs.List.Sorted.{IsPermutation}
 use Rattle.engine.specs.BestFirst.{entry}
 use Rattle.closed_list.specs.Rows.{row}
@@ -25,6 +25,6 @@ returns g c =
     record {
       answer = searched_from _ _ _ _ _ c.fresh.ensures.same _ _ _ _ _ (ap (λ rs. (row rs 0).state.words) c.fresh.ensures.rows) e.answer;
       sized = e.sized;
-      store-room = e.store-room ∙ c.fresh.ensures.same;
-      frontier-room = e.frontier-room ∙ c.put.ensures.same ∙ c.clear.ensures.same;
+      store_room = e.store_room ∙ c.fresh.ensures.same;
+      frontier_room = e.frontier_room ∙ c.put.ensures.same ∙ c.clear.ensures.same;
     }

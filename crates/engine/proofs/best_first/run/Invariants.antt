@@ -1,4 +1,4 @@
-use Rattle.std.proofs.Common.{◌≡◌, ◌-◌, ◌<◌, ◌≤◌, length, vec_items}
+use Rattle.std.proofs.Common.{◌≡◌, ◌-◌, ◌≤◌, vec_items}
 use Rattle.closed_list.specs.Rows.{row}
 use Rattle.engine.specs.Generation.{posed}
 use Rattle.engine.specs.BestFirst.{Explored}

@@ -1,4 +1,4 @@
-use Rattle.std.proofs.Common.{◌≡◌, ◌+◌, ◌<◌, sym, ap, ◌∙◌, subst, arith}
+use Rattle.std.proofs.Common.{◌∙◌, arith}
 use Rattle.engine.proofs.Gens.{read_there}
 use Rattle.engine.proofs.Bests.{good_taken, turn_made}
 use Rattle.engine.proofs.best_first.turn.Goals as goal
@@ -16,6 +16,6 @@ returns g c =
     let e = read_there _ _ _ _ _ k.there c.read.ensures.filled in
     record {
       change = turn_made _ _ _ c.in-Some.entry (g.F.Frontier.waiting c.take.new.self) c.read.new.«record» _ _ _ c.in-Some.ensures.change e c.expand.ensures.change;
-      store-room = c.expand.ensures.store-room;
-      frontier-room = c.expand.ensures.frontier-room ∙ c.in-Some.ensures.same;
+      store_room = c.expand.ensures.store_room;
+      frontier_room = c.expand.ensures.frontier_room ∙ c.in-Some.ensures.same;
     }

@@ -1,4 +1,4 @@
-use Rattle.std.proofs.Common.{◌≡◌, ℕ, sym, refl, ◌∙◌, arith}
+use Rattle.std.proofs.Common.{sym, refl, ◌∙◌, arith}
 use Rattle.engine.specs.HillClimbing.{barred, passed, full, never, worse, better}
 use Rattle.engine.proofs.Trees.{gen_entered}
 use Rattle.engine.proofs.Hills.{tries_is}

@@ -1,4 +1,4 @@
-use Rattle.std.proofs.Common.{◌≡◌, ◌-◌, ◌<◌, ◌≤◌, length, take, vec_items}
+use Rattle.std.proofs.Common.{◌≡◌, ◌<◌, ◌≤◌, take, vec_items}
 use Rattle.engine.specs.Generation.{posed}
 use Rattle.engine.specs.HillClimbing.{Hill}
 use Rattle.engine.proofs.hill_climbing.hill.Given as goal

@@ -1,4 +1,4 @@
-use Rattle.std.proofs.Common.{◌≡◌, sym, refl, ap, ◌∙◌, arith}
+use Rattle.std.proofs.Common.{refl, ◌∙◌, arith}
 use Rattle.engine.proofs.Hills.{ended_at, ended_counted, once_as, again_as}
 use Rattle.engine.proofs.hill_climbing.leg.Goals as goal
 

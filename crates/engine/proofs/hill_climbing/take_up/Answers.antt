@@ -1,6 +1,6 @@
-use Rattle.std.proofs.Common.{◌≡◌, sym, refl, ap, ◌∙◌, subst, arith}
-use Rattle.engine.specs.HillClimbing.{Stretch, begin, skip, turn, ran_out, spent, met_full, climbed}
-use Rattle.engine.proofs.Hills.{stretch_tree, stretch_reached, stretch_within, tops_at, begins}
+use Rattle.std.proofs.Common.{sym, refl, ap, ◌∙◌, arith}
+use Rattle.engine.specs.HillClimbing.{skip, turn, ran_out, spent, met_full, climbed}
+use Rattle.engine.proofs.Hills.{stretch_tree, stretch_reached, tops_at, begins}
 use Rattle.engine.proofs.hill_climbing.take_up.Goals as goal
 
 pub rows-init : goal.rows-init
@@ -21,7 +21,7 @@ pub returns-then-n-budget : goal.returns-then-n-budget
 returns-then-n-budget g c =
     let inv = c.rows.invariant in
     let rd = c.if-not-read.ensures.filled in
-    record { ended = spent inv.0 rd.0 (λ e. c.in-default.not-Never (ap (λ r. r.estimate) rd.1 ∙ e)) c.if-n-budget.true; same = inv.1 }
+    record { ended = spent inv.0 rd.0 (λ e. c.in_default.not-Never (ap (λ r. r.estimate) rd.1 ∙ e)) c.if-n-budget.true; same = inv.1 }
 
 pub climb-requires : goal.climb-requires
 climb-requires g c =
@@ -36,18 +36,18 @@ returns-in-Better g c =
     let inv = c.rows.invariant in
     let rd = c.if-not-read.ensures.filled in
     let e = c.in-Better.ensures in
-    record { ended = climbed inv.0 rd.0 (λ n. c.in-default.not-Never (ap (λ r. r.estimate) rd.1 ∙ n)) (omega arith) (tops_at _ _ _ _ _ inv.1 _ _ rd.1 e.change); same = e.same ∙ inv.1 }
+    record { ended = climbed inv.0 rd.0 (λ n. c.in_default.not-Never (ap (λ r. r.estimate) rd.1 ∙ n)) (omega arith) (tops_at _ _ _ _ _ inv.1 _ _ rd.1 e.change); same = e.same ∙ inv.1 }
 
 pub returns-in-Full : goal.returns-in-Full
 returns-in-Full g c =
     let inv = c.rows.invariant in
     let rd = c.if-not-read.ensures.filled in
     let e = c.in-Full.ensures in
-    record { ended = met_full inv.0 rd.0 (λ n. c.in-default.not-Never (ap (λ r. r.estimate) rd.1 ∙ n)) (omega arith) (tops_at _ _ _ _ _ inv.1 _ _ rd.1 e.change); same = e.same ∙ inv.1 }
+    record { ended = met_full inv.0 rd.0 (λ n. c.in_default.not-Never (ap (λ r. r.estimate) rd.1 ∙ n)) (omega arith) (tops_at _ _ _ _ _ inv.1 _ _ rd.1 e.change); same = e.same ∙ inv.1 }
 
 pub rows-preserved : goal.rows-preserved
 rows-preserved g c =
     let inv = c.rows.invariant in
     let rd = c.if-not-read.ensures.filled in
     let e = c.in-Going.ensures in
-    (turn inv.0 rd.0 (λ n. c.in-default.not-Never (ap (λ r. r.estimate) rd.1 ∙ n)) (omega arith) (tops_at _ _ _ _ _ inv.1 _ _ rd.1 e.change), e.same ∙ inv.1, omega arith)
+    (turn inv.0 rd.0 (λ n. c.in_default.not-Never (ap (λ r. r.estimate) rd.1 ∙ n)) (omega arith) (tops_at _ _ _ _ _ inv.1 _ _ rd.1 e.change), e.same ∙ inv.1, omega arith)

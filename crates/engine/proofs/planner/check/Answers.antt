@@ -1,4 +1,4 @@
-use Rattle.std.proofs.Common.{◌≡◌, sym, ◌∙◌}
+use Rattle.std.proofs.Common.{sym, ◌∙◌}
 use Rattle.engine.proofs.Checked.{inside, made_all, outside_goal, outside_state}
 use Rattle.engine.proofs.planner.check.Goals as goal
 
@@ -12,4 +12,4 @@ pub returns : goal.returns
 returns c =
     let s = sym c.admits.ensures.test ∙ c.if-not-admits.false in
     let goal = sym c.admits-2.ensures.test ∙ c.if-not-admits-2.false in
-    record { first = c.check-limits.ensures.first ∙ inside _ _ _ _ _ _ _ s goal; passed = c.check-limits.ensures.passed; within = made_all c.check-limits.result (s, goal) }
+    record { first = c.check_limits.ensures.first ∙ inside _ _ _ _ _ _ _ s goal; passed = c.check_limits.ensures.passed; within = made_all c.check_limits.result (s, goal) }

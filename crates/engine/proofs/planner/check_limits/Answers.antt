@@ -10,9 +10,9 @@ pub returns-then-frontier-store : goal.returns-then-frontier-store
 unfolding limits
 returns-then-frontier-store c = record { first = grind arith; passed = tt }
 
-pub returns-then-hill-gt-MOST-BUDGET : goal.returns-then-hill-gt-MOST-BUDGET
+pub returns-then-hill-gt-MOST_BUDGET : goal.returns-then-hill-gt-MOST_BUDGET
 unfolding limits
-returns-then-hill-gt-MOST-BUDGET c = let w = c.then-hill-gt-MOST-BUDGET.either in record { first = grind arith; passed = tt }
+returns-then-hill-gt-MOST_BUDGET c = let w = c.then-hill-gt-MOST_BUDGET.either in record { first = grind arith; passed = tt }
 
 pub returns : goal.returns
 unfolding limits

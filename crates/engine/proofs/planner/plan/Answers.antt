@@ -1,4 +1,4 @@
-use Rattle.std.proofs.Common.{◌≡◌, ◌≤◌, vec_items, sym, ap, ◌∙◌, subst, arith}
+use Rattle.std.proofs.Common.{vec_items, sym, ap, ◌∙◌, subst, arith}
 use Rattle.heuristic.specs.Laws.{Asked}
 use Rattle.engine.specs.Answers.{MayAnswer, said}
 use Rattle.engine.specs.Checks.{refusal}
@@ -21,13 +21,13 @@ returns g c =
     let goal = c.args.goal.now.words in
     let s = c.args.state.now.words in
     let room = g.S.Store.room c.args.store.now in
-    let hb = c.args.hill-budget in
-    let fb = c.args.fallback-budget in
+    let hb = c.args.hill_budget in
+    let fb = c.args.fallback_budget in
     let n = c.answer-verdict.result.1 in
     let m = c.answer-verdict.result.2 in
     let a = said c.answer-verdict.result.0 c.deliver.new.buffer in
     let may : MayAnswer (posed M P acts goal room) hb fb s a n m = subst (λ z. MayAnswer (posed M P acts goal room) hb fb s z n m) (sym c.deliver.ensures.answer) c.answer-verdict.ensures.may in
-    let ok = c.in-ok-check.ensures in
+    let ok = c.in_ok-check.ensures in
     let ask : Asked facts acts goal s = record { few = omega (arith, task.wide); small = task.small; within = task.actions_within; goal_in = ok.within.1; state_in = ok.within.0 } in
     record {
       first = ok.first ∙ ap (λ z. refusal facts s goal z c.places-2.result hb fb) c.places.ensures.value ∙ ap (λ z. refusal facts s goal room z hb fb) c.places-2.ensures.value;
@@ -39,7 +39,7 @@ returns g c =
       sized = c.answer-verdict.ensures.sized;
       past = c.deliver.ensures.past;
       long = omega arith;
-      store-room = c.answer-verdict.ensures.store-room;
-      frontier-room = c.answer-verdict.ensures.frontier-room;
+      store_room = c.answer-verdict.ensures.store_room;
+      frontier_room = c.answer-verdict.ensures.frontier_room;
       kept = tt;
     }

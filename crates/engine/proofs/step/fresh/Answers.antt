@@ -1,4 +1,4 @@
-use Rattle.std.proofs.Common.{◌≡◌, ◌<◌, ◌∙◌, arith}
+use Rattle.std.proofs.Common.{◌<◌, ◌∙◌, arith}
 use Rattle.engine.specs.Generation.{first_row}
 use Rattle.engine.proofs.Gens.{enter_first}
 use Rattle.engine.proofs.step.fresh.Goals as goal

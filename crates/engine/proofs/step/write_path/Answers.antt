@@ -1,4 +1,4 @@
-use Rattle.std.proofs.Common.{◌≡◌, ◌≤◌, length, sym, refl, ap, subst, arith}
+use Rattle.std.proofs.Common.{◌≤◌, length, ap, arith}
 use Rattle.engine.specs.Paths.{back, path}
 use Rattle.engine.proofs.Gens.{read_there}
 use Rattle.engine.proofs.Traces.{trace_start, trace_next}

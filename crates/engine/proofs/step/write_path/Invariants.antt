@@ -1,4 +1,4 @@
-use Rattle.std.proofs.Common.{◌≡◌, ◌<◌, ◌≤◌, ◌++◌, length, take, drop}
+use Rattle.std.proofs.Common.{◌≡◌, ◌<◌, ◌++◌, length, take, drop}
 use Rattle.engine.specs.Paths.{back, path}
 use Rattle.engine.proofs.step.write_path.Given as goal
 
