@@ -1,32 +1,32 @@
 #!/usr/bin/env bash
 # Programs that must not build. Each crates/NAME/refused/*.edit is made in a copy of the program NAME; the compiler has to refuse
-# the copy with the error that the edit names, and to take the program as it is. The libraries are compiled from their sources,
-# as `rt try` does: nothing is proved here, so this takes seconds.
+# the copy with the error that the edit names, and to take the program as it is. `rt try` compiles each copy over the libraries'
+# sources and runs what compiles: nothing is proved here, so this takes a minute or two.
 set -euo pipefail
 cd "$(dirname "$0")/.."
-kit=$(dirname "$(dirname "$(rt doc)")")
 work=$(mktemp -d)
 trap 'rm -rf "$work"' EXIT
 
-libraries=()
-while IFS=: read -r library used; do
-    libraries+=(--lib "$library:$(echo $used | tr ' ' ,)=$kit/$library/src/lib.rt")
-done <"$kit/libs.txt"
-for root in crates/*/src/lib.rt; do
-    library=${root#crates/}
-    libraries+=(--lib "${library%%/*}=$root")
+cp crates.txt "$work"
+for folder in crates/*/src; do
+    mkdir -p "$work/${folder%/src}"
+    cp -R "$folder" "$work/$folder"
 done
 
-# Compiles the copy of the program; what the compiler says of it is in $work/log.
+# Compiles the copy of the program, and runs it where it compiles; what the compiler says of it is in $work/log.
 compiles() { # NAME
-    "$kit/bin/rattle-print-mir" "$work/src/main.rt" --crate-name "$1" "${libraries[@]}" >/dev/null 2>"$work/log"
+    local file data=()
+    for file in "$PWD/crates/$1/data"/*; do
+        [ ! -f "$file" ] || data+=(--data "${file##*/}=$file")
+    done
+    (cd "$work/crates/$1" && rt try ${data[@]+"${data[@]}"} </dev/null >/dev/null 2>"$work/log")
 }
 
 # Puts the edit's new text in place of its old one, which has to stand once in its file.
-apply() { # EDIT
+apply() { # NAME EDIT
     local file
-    file=$work/$(sed -n 's/^file: //p' "$1")
-    OLD=$(sed -n 's/^old: //p' "$1") NEW=$(sed -n 's/^new: //p' "$1") awk '
+    file=$work/crates/$1/$(sed -n 's/^file: //p' "$2")
+    OLD=$(sed -n 's/^old: //p' "$2") NEW=$(sed -n 's/^new: //p' "$2") awk '
         { text = text $0 "\n" }
         END {
             old = ENVIRON["OLD"]
@@ -38,8 +38,8 @@ apply() { # EDIT
 }
 
 fresh() { # NAME
-    rm -rf "$work/src"
-    cp -R "crates/$1/src" "$work/src"
+    rm -rf "$work/crates/$1/src"
+    cp -R "crates/$1/src" "$work/crates/$1/src"
 }
 
 bad=0
@@ -54,7 +54,7 @@ for folder in crates/*/refused; do
     for edit in "$folder"/*.edit; do
         label=$program/$(basename "$edit" .edit) error=$(sed -n 's/^error: //p' "$edit")
         fresh "$program"
-        if ! apply "$edit"; then
+        if ! apply "$program" "$edit"; then
             echo "$label: BAD EDIT: its old text does not stand once in its file" && bad=1
         elif compiles "$program"; then
             echo "$label: NOT REFUSED" && bad=1
@@ -64,5 +64,6 @@ for folder in crates/*/refused; do
             echo "$label: REFUSED FOR ANOTHER REASON than $error" && head -n 5 "$work/log" && bad=1
         fi
     done
+    fresh "$program"
 done
 exit $bad

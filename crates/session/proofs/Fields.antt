@@ -4,16 +4,16 @@ use native.Mathlib.Bridge.{le_prop}
 use mathlib.Core.Bool.{Bool-set}
 use mathlib.Core.Logic.{∥∥₁_elim}
 use Rattle.std.proofs.lemmas.List.{drop_all}
-use Rattle.facts.specs.Checks.{or_else, unless}
+use Rattle.facts.specs.Checks.{unless}
 use Rattle.facts.specs.Words.{subset}
 use Rattle.strips.specs.declared.problem.Task.{Task}
 use Rattle.strips.specs.Semantics.{State, result}
 use Rattle.strips.specs.Sound.{act}
-use Rattle.engine.specs.Answers.{Answer, plan, said}
+use Rattle.engine.specs.Answers.{plan, said}
 use Rattle.engine.specs.declared.model.Verdict.{Verdict}
 use Rattle.engine.specs.declared.model.Verdict.TheVariants as verdicts
-use Rattle.session.specs.Account.{Account, Held, account_of, any, free, held_as, holds, kept, left, names, out_as, remaining, ruling}
-use Rattle.session.specs.Histories.{Asking, Order, Outcome, Replied, answers, done, first, issue, moved, planned, reply, rest, settled}
+use Rattle.session.specs.Account.{Account, account_of, any, held_as, holds, kept, left, names, out_as, remaining, ruling}
+use Rattle.session.specs.Histories.{Asking, Order, Replied, answers, done, first, issue, moved, planned, reply, rest, settled}
 use Rattle.session.specs.Opening.{length_for, phase_for}
 use Rattle.session.specs.Standing.{Counts, account}
 use Rattle.session.specs.declared.model.Call.{Call}
@@ -21,7 +21,7 @@ use Rattle.session.specs.declared.model.Call.TheVariants.{Issue}
 use Rattle.session.specs.declared.model.Phase.{Phase}
 use Rattle.session.specs.declared.model.Phase.TheVariants as phase
 use Rattle.session.specs.declared.session.Session.{Session}
-use Rattle.session.proofs.Laws.{Fronts, Good, Right, acts_of, behind_good, impossible}
+use Rattle.session.proofs.Laws.{Fronts, Right, acts_of, behind_good, impossible}
 use Rattle.session.proofs.Plans.{Leads}
 
 pub left_cons : (p : List ℕ) (i k : ℕ) → i < k → k ≤ length p → left p i k ≡ get_or p i 0 ∷ left p (i + 1) k

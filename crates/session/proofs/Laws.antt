@@ -1,11 +1,11 @@
 -- What every history keeps, and how a session's history grows by a call.
-use Rattle.std.proofs.Common.{◌≡◌, ℕ, ◌<◌, ◌≤◌, Bool, true, false, List, [], ◌∷◌, length, Some, None, vec_items, Option, sym, refl, ap, ◌∙◌, subst, arith}
+use Rattle.std.proofs.Common.{◌≡◌, ℕ, Bool, true, false, List, [], ◌∷◌, Some, None, vec_items, Option, sym, refl, ap, ◌∙◌, subst, arith}
 use mathlib.Core.Logic.{∥∥₁_map}
 use Rattle.facts.specs.Checks.{or_else, unless}
 use Rattle.facts.specs.Words.{subset}
 use Rattle.strips.specs.declared.action.Action.{Action}
 use Rattle.strips.specs.declared.problem.Task.{Task}
-use Rattle.strips.specs.Semantics.{IsPlan, State, result}
+use Rattle.strips.specs.Semantics.{State, result}
 use Rattle.strips.specs.Sound.{act}
 use Rattle.strips.proofs.Runs.{result_within}
 use Rattle.heuristic.specs.Laws.{Asked}
@@ -13,8 +13,8 @@ use Rattle.engine.specs.Answers.{Answer, Excludes, Plans, plan, none, spent, ful
 use Rattle.engine.specs.Generation.{posed}
 use Rattle.engine.proofs.Right.{answers_none, answers_plans}
 use Rattle.engine.proofs.Decided.{answers_decided}
-use Rattle.session.specs.Account.{Account, Held, any, free, holds, names, remaining, ruling, unasked}
-use Rattle.session.specs.Histories.{Asking, Behind, Event, History, May, Outcome, Replied, Reply, after, after_order, aim, answers, correct, done, first, issue, moved, not_done, planned, refused, reply, rest, settled}
+use Rattle.session.specs.Account.{Account, Held, any, free, holds, names, remaining, unasked}
+use Rattle.session.specs.Histories.{Asking, Behind, Event, History, May, Outcome, Replied, after, after_order, aim, answers, correct, done, first, issue, moved, not_done, planned, refused, reply, rest, settled}
 use Rattle.session.specs.Promise.{HistoriesSound, Sound}
 use Rattle.session.proofs.Plans.{Leads, leads_plan, plan_leads}
 

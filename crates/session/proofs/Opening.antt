@@ -1,8 +1,8 @@
 -- Where the checks pass, the history goes on.
-use Rattle.std.proofs.Common.{◌≡◌, ◌≤◌, length, get_or, Ok, Err, Result, refl}
+use Rattle.std.proofs.Common.{◌≡◌, ◌≤◌, length, get_or, Ok, Err, OnOk, Result, refl}
 use Rattle.session.specs.Account.{ruling}
 use Rattle.session.specs.Histories.{Order, aim, answers, correct, done, issue, not_done, settled}
-use Rattle.session.specs.Opening.{IfOk, Opens}
+use Rattle.session.specs.Opening.{Opens}
 use Rattle.session.specs.Standing.{account, plainly}
 use Rattle.session.specs.declared.model.Call.{Call}
 use Rattle.session.specs.declared.model.Call.TheVariants.{Correct, Aim, Plan, Issue, Report}
@@ -24,6 +24,6 @@ passing s (Report m k) r e =
     let p : Order = record { session = m; action = k } in
     (ordered_front s o r, ordered_action s o r, (λ u d. done_moves s p u o r d), (λ u d. extended (done p (answers tt)) e (done_moves s p u o r d) s.history), extended (not_done p (answers tt)) e refl s.history)
 
-pub opens : {A : Type 0} (s : Session) (q : Call) (r : Result A Refusal) → s.len ≤ length s.plan → plainly r ≡ settled (ruling s.task.now s.number (account s) q) → IfOk r (Opens s q)
+pub opens : {A : Type 0} (s : Session) (q : Call) (r : Result A Refusal) → s.len ≤ length s.plan → plainly r ≡ settled (ruling s.task.now s.number (account s) q) → OnOk r (Opens s q)
 opens s q (Ok x) r e = passing s q r e
 opens s q (Err x) r e = tt

@@ -1,5 +1,5 @@
 -- The plan call of a session: what its checks leave to the engine, and what is held after it.
-use Rattle.std.proofs.Common.{◌≡◌, ℕ, ◌≤◌, true, Some, None, Option, sym, refl, ap, ◌∙◌, subst, arith}
+use Rattle.std.proofs.Common.{◌≡◌, ℕ, ◌≤◌, Some, None, Option, sym, ap, ◌∙◌, subst, arith}
 use Rattle.std.specs.Option.{option_map}
 use Rattle.facts.specs.Checks.{or_else, unless}
 use Rattle.strips.specs.declared.problem.Task.{Task}
@@ -17,7 +17,7 @@ use Rattle.session.specs.Standing.{account}
 use Rattle.session.specs.declared.model.Call.TheVariants.{Plan}
 use Rattle.session.specs.declared.model.Limits.{Limits}
 use Rattle.session.specs.declared.session.Session.{Session}
-use Rattle.session.proofs.Fields.{goals_in, passed_of, state_in}
+use Rattle.session.proofs.Fields.{goals_in, state_in}
 use Rattle.session.proofs.Laws.{impossible}
 
 abbrev pub limits_of : ℕ → ℕ → ℕ → ℕ → Limits

@@ -2,7 +2,7 @@
 use Rattle.std.proofs.Common.{◌≡◌, ℕ, ◌<◌, true, List, [], ◌∷◌, length}
 use native.Mathlib.Bridge.{le_prop}
 use mathlib.Core.Bool.{Bool-set}
-use mathlib.Core.HLevel.{Π_prop, ×₃_prop, ⊥_prop, Unit-prop}
+use mathlib.Core.HLevel.{×₃_prop}
 use Rattle.facts.specs.Words.{subset}
 use Rattle.strips.specs.declared.action.Action.{Action}
 use Rattle.strips.specs.Semantics.{IsPlan, Run, State, applicable, result, step, stop}

@@ -1,5 +1,5 @@
 -- What the place where a session stands says of its account.
-use Rattle.std.proofs.Common.{◌≡◌, ℕ, ◌+◌, ◌<◌, ◌≤◌, List, ◌∷◌, length, get_or, refl, ap}
+use Rattle.std.proofs.Common.{◌≡◌, ℕ, ◌+◌, ◌<◌, ◌≤◌, List, length, get_or, refl, ap}
 use Rattle.strips.specs.Semantics.{State}
 use Rattle.engine.specs.Answers.{plan}
 use Rattle.session.specs.Account.{holds, kept, left}

@@ -1,5 +1,5 @@
 -- The held plan as a list, and as a file.
-use Rattle.std.proofs.Common.{◌≡◌, ℕ, zero, suc, ◌+◌, ◌-◌, ◌<◌, ◌≤◌, Bool, true, false, ◌⊎◌, List, [], ◌∷◌, length, get_or, take, drop, Ok, Err, sym, refl, ap, ◌∙◌, subst, inl, inr, arith}
+use Rattle.std.proofs.Common.{◌≡◌, ℕ, zero, suc, ◌+◌, ◌-◌, ◌<◌, ◌≤◌, Bool, true, false, ◌⊎◌, List, [], ◌∷◌, length, get_or, take, drop, Ok, Err, sym, refl, ap, ◌∙◌, inl, inr, arith}
 use Rattle.std.proofs.lemmas.List.{drop-take}
 use Rattle.facts.specs.Words.{subset}
 use Rattle.strips.specs.declared.action.Action.{Action}
@@ -16,19 +16,22 @@ use Rattle.planfile.specs.declared.answer.Flaw.TheVariants.{NoSuchAction, Precon
 use Rattle.planfile.specs.declared.answer.Unwritten.{Unwritten}
 use Rattle.engine.specs.Answers.{plan}
 use Rattle.session.specs.Account.{Account, held_as, holds, left, remaining}
-use Rattle.session.specs.Writing.{Accepted, Writes, no_plan, too_short, written}
+use Rattle.session.specs.Writing.{Accepted, Writes, too_short, written}
 use Rattle.session.specs.declared.model.Phase.{Phase}
 use Rattle.session.specs.declared.model.Phase.TheVariants as phase
-use Rattle.session.specs.declared.model.Refusal.TheVariants.{BufferTooShort, NothingToGive}
+use Rattle.session.specs.declared.model.Refusal.TheVariants.{BufferTooShort}
 use Rattle.session.proofs.Laws.{acts_of}
 use Rattle.session.proofs.Plans.{Leads, leads_plan}
 
-pub left_part : (p : List ℕ) (i k : ℕ) → i ≤ k → take (k - i) (drop i p) ≡ left p i k
+left_part : (p : List ℕ) (i k : ℕ) → i ≤ k → take (k - i) (drop i p) ≡ left p i k
 left_part p i k h = let e : i + (k - i) ≡ k = omega arith in sym (drop-take i (k - i) p) ∙ ap (λ n. drop i (take n p)) e
 
 pub held_plan : (f : Phase) (l : List ℕ) → (f ≡ phase.Ready) ⊎ (f ≡ phase.Ordered) → held_as f l ≡ holds (plan l)
 held_plan f l (inl e) = ap (λ (z : Phase). held_as z l) e
 held_plan f l (inr e) = ap (λ (z : Phase). held_as z l) e
+
+pub list_held : (f : Phase) (p xs : List ℕ) (i k : ℕ) → (f ≡ phase.Ready) ⊎ (f ≡ phase.Ordered) → i ≤ k → xs ≡ take (k - i) (drop i p) → xs ≡ remaining (held_as f (left p i k))
+list_held f p xs i k w h e = e ∙ left_part p i k h ∙ sym (ap remaining (held_plan f (left p i k) w))
 
 pub held_none : (f : Phase) (l ks : List ℕ) → (f ≡ phase.Ready → ⊥) → (f ≡ phase.Ordered → ⊥) → held_as f l ≡ holds (plan ks) → ⊥
 held_none phase.Unasked l ks n m e = let z : ◌≡◌ {A = ℕ} 0 1 = cc in omega arith

@@ -1,5 +1,5 @@
 -- What a call that passes its checks may make of a session.
-use Rattle.std.specs.Prelude.{◌≡◌, ℕ, ◌+◌, ◌<◌, length, Ok, Err, vec_items, Result, slice_index}
+use Rattle.std.specs.Prelude.{◌≡◌, ℕ, ◌+◌, ◌<◌, length, vec_items, slice_index}
 use Rattle.strips.specs.Semantics.{State, result}
 use Rattle.strips.specs.Sound.{act}
 use Rattle.engine.specs.declared.model.Verdict.{Verdict}
@@ -25,10 +25,6 @@ length_for (verdicts.Plan n) = n
 length_for verdicts.None = 0
 length_for verdicts.Spent = 0
 length_for verdicts.Full = 0
-
-abbrev pub IfOk : {A E : Type 0} → Result A E → Type 0 → Type 0
-IfOk (Ok x) P = P
-IfOk (Err e) P = Unit {0}
 
 -- by the call, what the session may become with a history behind it
 abbrev pub Opens : Session → Call → Type 0

@@ -1,4 +1,6 @@
 // Sessions: what was told, what is held and what is out, with the history of calls behind each.
+#![tactic(auto)]
+
 mod model;
 mod session;
 

@@ -1,7 +1,9 @@
 // Plans for the yard of `yard.tsk`, then orders each lift of the plan and reports it done.
-ghost use Rattle.std.specs.Prelude.{Ok, Err};
+#![tactic(auto)]
 
-use closed_list::{ScannedStore, Store};
+ghost use Rattle.std.specs.Prelude.{IsOk};
+
+use closed_list::ScannedStore;
 use engine::Verdict;
 use open_list::Queue;
 use relaxed::RelaxedGraph;
@@ -15,7 +17,7 @@ const BUDGET: u32 = 100;
 
 // Orders the first remaining lift and reports it done; nothing where none remains. A session takes its own slip back.
 fn lift(session: &mut Session<'_>) -> Result<Option<u16>, Returned>
-    ensures answered { elim result [ Ok x ↦ Unit {0} | Err e ↦ ⊥ ] }
+    ensures answered { IsOk result }
 {
     match session.issue() {
         Ok(slip) => {

@@ -1,16 +1,16 @@
 // The calls of a session.
-ghost use Rattle.std.specs.Prelude.{◌≡◌, ◌<◌, length, IfOk, OnErr, slice_index};
+ghost use Rattle.std.specs.Prelude.{◌≡◌, ◌<◌, length, IfOk, OnErr, OnOk, slice_index};
 ghost use Rattle.facts.specs.Checks.{unless};
 ghost use Rattle.facts.specs.Words.{subset};
 ghost use Rattle.std.specs.Option.{option_map};
-ghost use Rattle.strips.specs.Semantics.{result};
+ghost use Rattle.strips.specs.Semantics.{result as result_of};
 ghost use Rattle.strips.specs.Sound.{act};
-ghost use Rattle.engine.specs.Checks.{limits as limitsOf, refusal_number as planNumber};
+ghost use Rattle.engine.specs.Checks.{limits as limits_of, refusal_number as plan_number};
 ghost use Rattle.session.specs.Account.{kept, ruling};
 ghost use Rattle.session.specs.Histories.{aim, correct, done, issue, not_done, opened, planned, settled};
 ghost use Rattle.session.specs.Numbers.{refusal_number};
 ghost use Rattle.session.specs.Standing.{Back, Called, Counts, account, handed, order_of, outcome, plainly, reported};
-ghost use Rattle.session.specs.Opening.{IfOk, Opens, length_for, phase_for};
+ghost use Rattle.session.specs.Opening.{Opens, length_for, phase_for};
 
 use crate::model::{Call, Limits, Phase, Refusal};
 use crate::session::{Returned, Session, Slip};
@@ -23,7 +23,7 @@ use strips::Task;
 
 // Whether a set lies within the facts in use.
 fn check_set(task: &Task, set: &FactSet) -> Result<(), Refusal>
-    ensures* ruled { λ r. ⌜ plainly r ≡ settled (unless (subset set.now.words task.now.facts.words) 6) ⌝ }
+    ensures ruled { plainly result ≡ settled (unless (subset set.now.words task.now.facts.words) 6) }
 {
     if task.admits(set) {
         Ok(())
@@ -34,7 +34,7 @@ fn check_set(task: &Task, set: &FactSet) -> Result<(), Refusal>
 
 // A refusal of the plan call, as the session tells it.
 fn retold(refusal: engine::Refusal) -> Refusal
-    ensures* number { λ r. ⌜ refusal_number r ≡ planNumber refusal ⌝ }
+    ensures number { refusal_number result ≡ plan_number refusal }
 {
     match refusal {
         engine::Refusal::OutsideFacts => Refusal::OutsideFacts,
@@ -46,7 +46,7 @@ fn retold(refusal: engine::Refusal) -> Refusal
 
 // Whether the plan call takes these places and budgets.
 fn check_plan(limits: &Limits) -> Result<(), Refusal>
-    ensures* ruled { λ r. ⌜ plainly r ≡ settled (option_map planNumber (limitsOf limits.now.store limits.now.frontier limits.now.hill limits.now.fallback)) ⌝ }
+    ensures ruled { plainly result ≡ settled (option_map plan_number (limits_of limits.now.store limits.now.frontier limits.now.hill limits.now.fallback)) }
 {
     match check_limits(limits.store, limits.frontier, limits.hill, limits.fallback) {
         Ok(()) => Ok(()),
@@ -56,7 +56,7 @@ fn check_plan(limits: &Limits) -> Result<(), Refusal>
 
 // Where a session stands after a verdict, and how many actions it then holds.
 fn phase_of(verdict: Verdict) -> Phase
-    ensures* phase { λ r. ⌜ r ≡ phase_for verdict ⌝ }
+    ensures phase { result ≡ phase_for verdict }
 {
     match verdict {
         Verdict::Plan(_) => Phase::Ready,
@@ -67,7 +67,7 @@ fn phase_of(verdict: Verdict) -> Phase
 }
 
 fn length_of(verdict: Verdict) -> usize
-    ensures* length { λ r. ⌜ r ≡ length_for verdict ⌝ }
+    ensures length { result ≡ length_for verdict }
 {
     match verdict {
         Verdict::Plan(len) => usize::from(len),
@@ -78,9 +78,9 @@ fn length_of(verdict: Verdict) -> usize
 impl<'t> Session<'t> {
     // Opens a session on a task: its initial state and its goal are told, nothing is held or out.
     pub fn open(task: &'t Task, number: u16) -> Session<'t>
-        ensures* of { λ r. ⌜ r.task.now ≡ task.now ⌝ }
-        ensures* named { λ r. ⌜ r.number ≡ number ⌝ }
-        ensures* start { λ r. ⌜ account r ≡ opened task.now ⌝ }
+        ensures of { result.task.now ≡ task.now }
+        ensures named { result.number ≡ number }
+        ensures start { account result ≡ opened task.now }
     {
         Session {
             task,
@@ -96,7 +96,7 @@ impl<'t> Session<'t> {
 
     // The numbered checks, on where the session stands and on the call together.
     fn check(&self, call: &Call) -> Result<(), Refusal>
-        ensures* ruled { λ r. ⌜ plainly r ≡ settled (ruling self.now.task.now self.now.number (account self.now) call.now) ⌝ }
+        ensures ruled { plainly result ≡ settled (ruling self.now.task.now self.now.number (account self.now) call.now) }
     {
         match (self.phase, call) {
             (Phase::Ordered, Call::Report(session, action)) => {
@@ -124,15 +124,15 @@ impl<'t> Session<'t> {
 
     // The checks; where they pass, the history goes on by this call.
     fn admit(&self, call: &Call) -> Result<(), Refusal>
-        ensures* ruled { λ r. ⌜ plainly r ≡ settled (ruling self.now.task.now self.now.number (account self.now) call.now) ⌝ }
-        ensures* opens { λ r. ⌜ IfOk r (Opens self.now call.now) ⌝ }
+        ensures ruled { plainly result ≡ settled (ruling self.now.task.now self.now.number (account self.now) call.now) }
+        ensures opens { OnOk result (Opens self.now call.now) }
     {
         self.check(call)
     }
 
     // Replaces the told state by a reported one.
     pub fn correct(&mut self, state: FactSet) -> Result<(), Refusal>
-        ensures* call { λ r. ⌜ Called self.old (correct state.words (plainly r)) self.new ⌝ }
+        ensures call { Called self.old (correct state.words (plainly result)) self.new }
     {
         self.admit(&Call::Correct(state))?;
         self.state = state;
@@ -142,7 +142,7 @@ impl<'t> Session<'t> {
 
     // Replaces the told goals.
     pub fn aim(&mut self, goals: FactSet) -> Result<(), Refusal>
-        ensures* call { λ r. ⌜ Called self.old (aim goals.words (plainly r)) self.new ⌝ }
+        ensures call { Called self.old (aim goals.words (plainly result)) self.new }
     {
         self.admit(&Call::Aim(goals))?;
         self.goals = goals;
@@ -159,11 +159,11 @@ impl<'t> Session<'t> {
         hill: u32,
         fallback: u32,
     ) -> Result<(Verdict, u32, u32), Refusal>
-        ensures* call { λ r. ⌜ Called self.old (planned (record { estimate = E.Estimator.meaning; prefers = E.Estimator.prefers; limits = record { store = S.Store.room store.entry.now; frontier = F.Frontier.room frontier.old; hill = hill; fallback = fallback } }) (outcome self.new r)) self.new ⌝ }
-        ensures* counts { λ r. ⌜ IfOk r (λ a. Counts a.0 (account self.new)) ⌝ }
-        ensures* store_room { λ _. ⌜ S.Store.room store.new ≡ S.Store.room store.old ⌝ }
-        ensures* frontier_room { λ _. ⌜ F.Frontier.room frontier.new ≡ F.Frontier.room frontier.old ⌝ }
-        ensures* untouched { λ r. ⌜ OnErr r ((estimator.new ≡ estimator.old) × (frontier.new ≡ frontier.old) × (store.new ≡ store.old)) ⌝ }
+        ensures call { Called self.old (planned (record { estimate = E.Estimator.meaning; prefers = E.Estimator.prefers; limits = record { store = S.Store.room store.old; frontier = F.Frontier.room frontier.old; hill = hill; fallback = fallback } }) (outcome self.new result)) self.new }
+        ensures counts { IfOk result (λ a. Counts a.0 (account self.new)) }
+        ensures store_room { S.Store.room store.new ≡ S.Store.room store.old }
+        ensures frontier_room { F.Frontier.room frontier.new ≡ F.Frontier.room frontier.old }
+        ensures untouched { OnErr result ((estimator.new ≡ estimator.old) × (frontier.new ≡ frontier.old) × (store.new ≡ store.old)) }
     {
         let limits = Limits {
             store: store.places(),
@@ -197,7 +197,7 @@ impl<'t> Session<'t> {
 
     // Orders the first remaining action.
     pub fn issue(&mut self) -> Result<Slip, Refusal>
-        ensures* call { λ r. ⌜ Called self.old (issue (handed r)) self.new ⌝ }
+        ensures call { Called self.old (issue (handed result)) self.new }
     {
         self.admit(&Call::Issue)?;
         let action = self.plan[self.at];
@@ -212,7 +212,7 @@ impl<'t> Session<'t> {
     fn next_state(&self) -> FactSet
         requires left { self.now.at < length self.now.plan }
         requires exists { slice_index self.now.plan self.now.at < length self.now.task.now.actions.items }
-        ensures* words { λ r. ⌜ r.words ≡ result (act self.now.task.now.actions.items (slice_index self.now.plan self.now.at)) self.now.state.words ⌝ }
+        ensures words { result.words ≡ result_of (act self.now.task.now.actions.items (slice_index self.now.plan self.now.at)) self.now.state.words }
     {
         match self.task.action(usize::from(self.plan[self.at])) {
             Some(action) => action.apply(&self.state),
@@ -222,8 +222,8 @@ impl<'t> Session<'t> {
 
     // The ordered action was done.
     pub fn done(&mut self, slip: Slip) -> Result<(), Returned>
-        ensures* call { λ r. ⌜ Called self.old (done (order_of slip) (reported r)) self.new ⌝ }
-        ensures* back { λ r. ⌜ Back slip r ⌝ }
+        ensures call { Called self.old (done (order_of slip) (reported result)) self.new }
+        ensures back { Back slip result }
     {
         if let Err(refusal) = self.admit(&Call::Report(slip.session, slip.action)) {
             return Err(Returned { refusal, slip });
@@ -240,8 +240,8 @@ impl<'t> Session<'t> {
 
     // The ordered action was not done.
     pub fn not_done(&mut self, slip: Slip) -> Result<(), Returned>
-        ensures* call { λ r. ⌜ Called self.old (not_done (order_of slip) (reported r)) self.new ⌝ }
-        ensures* back { λ r. ⌜ Back slip r ⌝ }
+        ensures call { Called self.old (not_done (order_of slip) (reported result)) self.new }
+        ensures back { Back slip result }
     {
         if let Err(refusal) = self.admit(&Call::Report(slip.session, slip.action)) {
             return Err(Returned { refusal, slip });

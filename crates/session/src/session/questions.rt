@@ -1,7 +1,7 @@
 // What a session answers without a change: where it stands, what it was told, what it holds, and the held plan as a file.
 ghost use Rattle.std.specs.Prelude.{◌≡◌, ◌≤◌, length, IfOk};
 ghost use Rattle.engine.specs.HillClimbing.{longest};
-ghost use Rattle.session.specs.Account.{remaining as remainingOf};
+ghost use Rattle.session.specs.Account.{remaining as remaining_of};
 ghost use Rattle.session.specs.Standing.{Shows, Stands, account};
 ghost use Rattle.session.specs.Writing.{Accepted, Writes};
 
@@ -66,7 +66,7 @@ impl<'t> Session<'t> {
 
     // The remaining actions of the plan held; none where no plan is held.
     pub fn remaining(&self) -> &[u16]
-        ensures list { result.now ≡ remainingOf (account self.now).held }
+        ensures list { result.now ≡ remaining_of (account self.now).held }
         ensures short { length result.now ≤ longest }
     {
         match self.phase {

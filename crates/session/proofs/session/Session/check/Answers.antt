@@ -1,4 +1,4 @@
-use Rattle.std.proofs.Common.{◌≡◌, ◌<◌, ◌≤◌, length, sym, ap, arith}
+use Rattle.std.proofs.Common.{◌≤◌, length, sym, ap, arith}
 use Rattle.session.specs.Histories.{settled}
 use Rattle.session.proofs.Fields.{issue_checked, issue_passed, ordered_front}
 use Rattle.session.proofs.session.Session.check.Goals as goal

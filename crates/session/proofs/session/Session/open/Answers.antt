@@ -2,5 +2,10 @@ use Rattle.std.proofs.Common.{[], arith}
 use Rattle.session.proofs.Calling.{opened_as}
 use Rattle.session.proofs.session.Session.open.Goals as goal
 
-pub invariant-of-result : goal.invariant-of-result
-invariant-of-result c = (omega arith, (omega arith, (∣ ([], tt, opened_as c.args.task.now _ _ c.initial.ensures.value c.goal.ensures.value) ∣₁, tt)))
+pub invariant_of-result : goal.invariant_of-result
+invariant_of-result c =
+    record {
+      front = omega arith;
+      room = omega arith;
+      history = ∣ ([], tt, opened_as c.args.task.now _ _ c.initial.ensures.value c.goal.ensures.value) ∣₁;
+    }
