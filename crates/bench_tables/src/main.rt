@@ -1,5 +1,7 @@
 // Fills and empties the tables at the size of a large session. Standard output has what came of it, which is always
 // the same; standard error has the times.
+#![tactic(auto)]
+
 ghost use Rattle.std.specs.Prelude.{◌≤◌, length};
 
 use closed_list::{Row, ScannedStore, Store, enter_all};

@@ -1,4 +1,6 @@
 // The console's library call: a line in, a reply out.
+#![tactic(auto)]
+
 mod serve;
 
 pub use serve::respond;

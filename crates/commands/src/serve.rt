@@ -1,6 +1,5 @@
 ghost use Rattle.std.specs.Prelude.{◌≡◌, Some};
 ghost use Rattle.console_lines.specs.Commands.{command};
-ghost use Rattle.console_lines.specs.declared.command.Command.TheVariants.{Plan as PlanCommand, Step as StepCommand, Skip as SkipCommand};
 ghost use Rattle.session.specs.Numbers.{refusal_number};
 ghost use Rattle.session.specs.Standing.{Stands};
 ghost use Rattle.commands.specs.Serves.{Desk, Serves, refused_line, told};
@@ -49,9 +48,9 @@ fn plan<E: Estimator, F: Frontier, S: Store>(
     hill: u32,
     fallback: u32,
 ) -> Reply
-    ensures serves { Serves (record { estimate = E.Estimator.meaning; prefers = E.Estimator.prefers; store = S.Store.room store.old; frontier = F.Frontier.room frontier.old }) session.old (Some (PlanCommand hill fallback)) result session.new }
-    ensures store_room { S.Store.room store.new ≡ S.Store.room store.old }
-    ensures frontier_room { F.Frontier.room frontier.new ≡ F.Frontier.room frontier.old }
+    ensures serves { Serves (record { estimate = E.meaning; prefers = E.prefers; store = S.room store.old; frontier = F.room frontier.old }) session.old (Some (Command.Plan hill fallback)) result session.new }
+    ensures store_room { S.room store.new ≡ S.room store.old }
+    ensures frontier_room { F.room frontier.new ≡ F.room frontier.old }
 {
     match session.plan(estimator, frontier, store, hill, fallback) {
         Ok((verdict, climbed, tried)) => tell(verdict, climbed, tried),
@@ -63,14 +62,14 @@ fn plan<E: Estimator, F: Frontier, S: Store>(
 
 // Issues an order and reports it done.
 fn step(session: &mut Session<'_>) -> Reply
-    ensures serves { (d : Desk) → Serves d session.old (Some StepCommand) result session.new }
+    ensures serves { (d : Desk) → Serves d session.old (Some Command.Step) result session.new }
 {
     match session.issue() {
         Ok(slip) => {
             let action = slip.action();
             match session.done(slip) {
                 Ok(()) => Reply::Did { action },
-                Err(_back) => unreachable(),
+                Err(_back) => unreachable!(),
             }
         }
         Err(refusal) => unissued(refusal),
@@ -79,14 +78,14 @@ fn step(session: &mut Session<'_>) -> Reply
 
 // Issues an order and reports it not done.
 fn skip(session: &mut Session<'_>) -> Reply
-    ensures serves { (d : Desk) → Serves d session.old (Some SkipCommand) result session.new }
+    ensures serves { (d : Desk) → Serves d session.old (Some Command.Skip) result session.new }
 {
     match session.issue() {
         Ok(slip) => {
             let action = slip.action();
             match session.not_done(slip) {
                 Ok(()) => Reply::NotDone { action },
-                Err(_back) => unreachable(),
+                Err(_back) => unreachable!(),
             }
         }
         Err(refusal) => unissued(refusal),
@@ -101,9 +100,9 @@ fn carry_out<E: Estimator, F: Frontier, S: Store>(
     store: &mut S,
     line: &[u8],
 ) -> Reply
-    ensures serves { Serves (record { estimate = E.Estimator.meaning; prefers = E.Estimator.prefers; store = S.Store.room store.old; frontier = F.Frontier.room frontier.old }) session.old (command line.now) result session.new }
-    ensures store_room { S.Store.room store.new ≡ S.Store.room store.old }
-    ensures frontier_room { F.Frontier.room frontier.new ≡ F.Frontier.room frontier.old }
+    ensures serves { Serves (record { estimate = E.meaning; prefers = E.prefers; store = S.room store.old; frontier = F.room frontier.old }) session.old (command line.now) result session.new }
+    ensures store_room { S.room store.new ≡ S.room store.old }
+    ensures frontier_room { F.room frontier.new ≡ F.room frontier.old }
 {
     let Some(asked) = parse(line) else {
         return Reply::Bad;
@@ -125,10 +124,10 @@ pub fn respond<E: Estimator, F: Frontier, S: Store>(
     store: &mut S,
     line: &[u8],
 ) -> Reply
-    ensures serves { Serves (record { estimate = E.Estimator.meaning; prefers = E.Estimator.prefers; store = S.Store.room store.old; frontier = F.Frontier.room frontier.old }) session.old (command line.now) result session.new }
+    ensures serves { Serves (record { estimate = E.meaning; prefers = E.prefers; store = S.room store.old; frontier = F.room frontier.old }) session.old (command line.now) result session.new }
     ensures stands { Stands session.new }
-    ensures store_room { S.Store.room store.new ≡ S.Store.room store.old }
-    ensures frontier_room { F.Frontier.room frontier.new ≡ F.Frontier.room frontier.old }
+    ensures store_room { S.room store.new ≡ S.room store.old }
+    ensures frontier_room { F.room frontier.new ≡ F.room frontier.old }
 {
     let reply = carry_out(session, estimator, frontier, store, line);
     session.standing();

@@ -1,3 +1,5 @@
+#![tactic(auto)]
+
 fn main(rt: HostRuntime) -> anyhow::Result<()> {
     terminal::run(&rt)
 }

@@ -1,10 +1,10 @@
 // The console at work: the yard from its file, commands from standard input, replies to standard output.
-use closed_list::Store;
+#![tactic(auto)]
+
 use commands::respond;
 use console_lines::Reply;
 use hashed_list::HashedStore;
 use input_lines::next_line;
-use open_list::Frontier;
 use ordered_open_list::WeightedFrontier;
 use relaxed::RelaxedGraph;
 use session::Session;
