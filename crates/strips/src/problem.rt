@@ -55,6 +55,14 @@ impl Task {
         self.actions.get(k)
     }
 
+    // All actions, in the order of their numbers.
+    pub fn actions(&self) -> &[Action]
+        ensures list { result.now ≡ self.now.actions.items }
+        ensures few { length result.now ≤ most_actions }
+    {
+        &self.actions
+    }
+
     pub fn initial(&self) -> FactSet
         ensures value { result ≡ self.now.initial }
         ensures within { subset result.words self.now.facts.words ≡ true }
