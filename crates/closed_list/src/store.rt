@@ -1,7 +1,7 @@
 // The interface of a closed list: rows in order of entry, states all different, in a fixed number of places.
-ghost use Rattle.std.specs.Prelude.{◌≡◌, ℕ, ◌≤◌, List, [], length};
+ghost use Rattle.std.specs.Prelude.{◌≡◌, ℕ, ◌<◌, ◌≤◌, List, [], length, MatchOption};
 ghost use Rattle.closed_list.specs.declared.row.Row.{Row as ARow};
-ghost use Rattle.closed_list.specs.Rows.{Different, Enter, Find, Read};
+ghost use Rattle.closed_list.specs.Rows.{Different, Enter, Find, Read, row as row_at};
 
 use crate::row::{Refusal, Row};
 use facts::FactSet;
@@ -21,9 +21,22 @@ pub trait Store {
         ensures change { Enter (room self.old) (rows self.old) row result (rows self.new) }
         ensures same { room self.new ≡ room self.old };
 
+    // The row under a number; none from the count upwards.
+    fn row(&self, number: u16) -> Option<Row>
+        ensures found { MatchOption result (length (rows self.now) ≤ number) (λ r. (number < length (rows self.now)) × (r ≡ row_at (rows self.now) number)) };
+
     // Fills the record with a row; false from the count upwards, and then the record is left.
-    fn read(&self, number: u16, record: &mut Row) -> bool
-        ensures filled { Read (rows self.now) number «record».old result «record».new };
+    final fn read(&self, number: u16, record: &mut Row) -> bool
+        ensures filled { Read (rows self.now) number «record».old result «record».new }
+    {
+        match self.row(number) {
+            Some(row) => {
+                *record = row;
+                true
+            }
+            None => false,
+        }
+    }
 
     fn clear(&mut self)
         ensures change { rows self.new ≡ [] }

@@ -113,14 +113,8 @@ impl Store for HashedStore {
         Ok(number as u16)
     }
 
-    fn read(&self, number: u16, record: &mut Row) -> bool {
-        match self.table.get(usize::from(number)) {
-            Some(row) => {
-                *record = *row;
-                true
-            }
-            None => false,
-        }
+    fn row(&self, number: u16) -> Option<Row> {
+        self.table.get(usize::from(number)).copied()
     }
 
     // It costs what was used: the buckets of the rows, not all buckets.
