@@ -1,9 +1,10 @@
 -- Lemmas on one member of a set.
-use Rattle.std.proofs.Common.{◌≡◌, ℕ, zero, suc, ◌*◌, ◌/◌, ◌%◌, ◌^◌, ◌<◌, Bool, true, false, ◌||◌, eqb, ◌≢◌, List, length, get_or, set, sym, refl, ap, ◌∙◌, ⊎_elim, div-one, arith, get_or-set_other, get_or-set_same}
+use Rattle.std.proofs.Common.{◌≡◌, ◌≤◌, ℕ, zero, suc, ◌*◌, ◌/◌, ◌%◌, ◌^◌, ◌<◌, Bool, true, false, ◌&&◌, ◌||◌, eqb, ltb, ◌≢◌, List, length, get_or, set, sym, refl, ap, ◌∙◌, ⊎_elim, div-one, arith, get_or-set_other, get_or-set_same}
 use native.Mathlib.Nat.{zero-div}
 use lib.Bits.{bit_and, bit_or, and_mask}
 use Rattle.std.proofs.lemmas.Nat.{one_shl, mod_below}
-use Rattle.std.proofs.lemmas.Bool.{cases_eq, eq-eqb, ne_eqb}
+use Rattle.std.proofs.lemmas.Bool.{cases_eq, cases_lt, eq-eqb, ne_eqb, lt-ltb, le-ltb}
+use Rattle.std.proofs.lemmas.List.{set_past}
 use Rattle.facts.specs.Words.{bit, has, insert}
 use Rattle.facts.proofs.Sets.{bit-or, bit_is, low_or, half_bit, pow_two_suc}
 
@@ -60,3 +61,16 @@ has_insert ws f g l =
     let a : get_or (set ws (f / 64) v) (g / 64) 0 ≡ get_or ws (g / 64) 0 = get_or-set_other ws (f / 64) (g / 64) v 0 e in
     ap (λ (x : ℕ). eqb (bit x (g % 64)) 1) a ∙ or_false _ ∙ ap (λ (x : Bool). eqb (bit (get_or ws (g / 64) 0) (g % 64)) 1 || x) (sym (ne_eqb f g n)))
     (cases_eq (g / 64) (f / 64))
+
+-- a number past the last word changes nothing
+pub insert_past : (ws : List ℕ) (n : ℕ) → length ws ≤ n / 64 → insert ws n ≡ ws
+unfolding insert
+insert_past ws n l = set_past ws (n / 64) _ l
+
+-- the members of a set of `words` words after any number was added
+pub has_inserted : (ws : List ℕ) (words m n : ℕ) → length ws ≡ words → has (insert ws m) n ≡ (has ws n || (ltb m (64 * words) && eqb m n))
+has_inserted ws words m n e =
+    ⊎_elim
+    (λ l. has_insert ws m n (omega arith) ∙ ap (λ (b : Bool). has ws n || (b && eqb m n)) (sym (lt-ltb m (64 * words) l)))
+    (λ l. ap (λ (xs : List ℕ). has xs n) (insert_past ws m (omega arith)) ∙ or_false (has ws n) ∙ ap (λ (b : Bool). has ws n || (b && eqb m n)) (sym (le-ltb m (64 * words) l)))
+    (cases_lt m (64 * words))

@@ -1,11 +1,11 @@
 -- Lemmas on sets as lists of words.
-use Rattle.std.proofs.Common.{◌≡◌, ℕ, zero, suc, ◌+◌, ◌-◌, ◌*◌, ◌/◌, ◌%◌, ◌^◌, ◌<◌, ◌≤◌, min, max, Bool, true, false, not, ◌&&◌, ◌||◌, eqb, List, [], map, length, get_or, take, set, sym, refl, ap, ◌∙◌, ⊎_elim, div-one, arith, length-set, get_or-set_other, pow_mono, below_more}
+use Rattle.std.proofs.Common.{◌≡◌, ℕ, zero, suc, ◌+◌, ◌-◌, ◌*◌, ◌/◌, ◌%◌, ◌^◌, ◌<◌, ◌≤◌, min, max, Bool, true, false, not, ◌&&◌, ◌||◌, eqb, List, [], map, length, get_or, take, replicate, set, sym, refl, ap, ◌∙◌, ⊎_elim, div-one, arith, length-set, get_or-set_other, pow_mono, below_more}
 use native.Mathlib.Nat.{pow-succ', zero-min, zero-div, div-div-eq-div-mul}
 use lib.Bits.{bit_and, bit_or, bit_xor, and_step, or_step, xor_step, and_shr, or_shr, xor_shr, and_zero_l, and_self, differ}
 use lib.Count.{ones}
 use Rattle.std.specs.List.{range_with_len, AllByRecursion}
 use Rattle.std.proofs.lemmas.List.FromFn.{fill_by_all, get_or-map-range_with_len, length-map-range_with_len}
-use Rattle.std.proofs.lemmas.List.{get_or_past, ext_get_or}
+use Rattle.std.proofs.lemmas.List.{get_or_past, get_or-replicate, ext_get_or, length-replicate}
 use Rattle.std.proofs.lemmas.List.Sums.{sum_by_more}
 use Rattle.std.proofs.lemmas.Nat.{mod_below, mod-mul-add, div-mul-add, and_le_l}
 use Rattle.std.proofs.ByRecursion.{All-get_or}
@@ -323,6 +323,11 @@ none_word ws e k =
 
 pub none_has : (ws : List ℕ) → none ws ≡ true → (n : ℕ) → has ws n ≡ false
 none_has ws e n = zero_word ws n (none_word ws e (n / 64))
+
+pub has_nothing : (count n : ℕ) → has (replicate count 0) n ≡ false
+has_nothing count n =
+    zero_word (replicate count 0) n
+    (⊎_elim (λ l. get_or-replicate count (n / 64) 0 0 l) (λ l. get_or_past (replicate count 0) (n / 64) 0 (omega (arith, length-replicate {A = ℕ} count 0))) (cases_lt (n / 64) count))
 
 low_zero : (x : ℕ) → x < 2 → eqb x 1 ≡ false → x ≡ 0
 low_zero x l e = let n = eqb-false x 1 e in omega arith

@@ -9,10 +9,6 @@ set_words = 4
 abbrev pub field_bytes : ℕ
 field_bytes = 32
 
--- the words of a set of action numbers
-abbrev pub action_words : ℕ
-action_words = 8
-
 -- the number that n bytes from the place `at` on write, the lowest first
 abbrev pub number : ℕ → List ℕ → ℕ → ℕ
 number zero bs at = 0

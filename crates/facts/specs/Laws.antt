@@ -23,6 +23,10 @@ CommonMembers = (xs ys : List ℕ) (n : ℕ) → has (common xs ys) n ≡ (has x
 abbrev pub InsertMembers : Type 0
 InsertMembers = (ws : List ℕ) (m n : ℕ) → m / 64 < length ws → has (insert ws m) n ≡ (has ws n || m == n)
 
+-- a number past the last word is not added
+abbrev pub InsertPast : Type 0
+InsertPast = (ws : List ℕ) (m : ℕ) → length ws ≤ m / 64 → insert ws m ≡ ws
+
 -- the test `subset` against membership, both ways
 abbrev pub SubsetGives : Type 0
 SubsetGives = (xs ys : List ℕ) → subset xs ys ≡ true → (n : ℕ) → has xs n ≡ true → has ys n ≡ true

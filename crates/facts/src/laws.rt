@@ -1,4 +1,4 @@
-ghost use Rattle.facts.specs.Laws.{BytesBack, CommonMembers, DifferenceMembers, Extensional, InsertMembers, NoneFrom, NoneGives, SizeCounts, SubsetFrom, SubsetGives, UnionMembers, WordsBack};
+ghost use Rattle.facts.specs.Laws.{BytesBack, CommonMembers, DifferenceMembers, Extensional, InsertMembers, InsertPast, NoneFrom, NoneGives, SizeCounts, SubsetFrom, SubsetGives, UnionMembers, WordsBack};
 
 // The laws of sets, for any number of words: specs/Laws.antt has them.
 pub fn sets_are_lawful()
@@ -6,6 +6,7 @@ pub fn sets_are_lawful()
     ensures difference { DifferenceMembers }
     ensures common { CommonMembers }
     ensures insert { InsertMembers }
+    ensures insert_past { InsertPast }
     ensures subset_gives { SubsetGives }
     ensures subset_from { SubsetFrom }
     ensures none_gives { NoneGives }

@@ -1,4 +1,4 @@
-ghost use Rattle.std.specs.Prelude.{◌≡◌, ℕ, ◌+◌, ◌*◌, ◌/◌, ◌%◌, ◌<◌, ◌≤◌, true, false, not, ◌&&◌, ◌||◌, length, replicate, IfSome, Decides, MatchOption, ◌==◌, slice_index};
+ghost use Rattle.std.specs.Prelude.{◌≡◌, ℕ, ◌+◌, ◌*◌, ◌/◌, ◌%◌, ◌<◌, ◌≤◌, true, false, not, ◌&&◌, ◌||◌, length, replicate, IfSome, Decides, MatchOption, ◌==◌, nat_lt, slice_index};
 ghost use Rattle.facts.specs.Digest.{digest as digest_of};
 ghost use Rattle.facts.specs.Field.{bytes as bytes_of, field_bytes, part, set_words, words as words_at};
 ghost use Rattle.facts.specs.Members.{Next};
@@ -10,38 +10,73 @@ ghost use Rattle.std.specs.Ordering.{on};
 
 use crate::words;
 
-// the words of a set, and the bytes of its field in a file
+// the words of a set of facts and of a set of actions, and the bytes of a set of facts in a file
 pub const WORDS: usize = 4;
+
+const ACTION_WORDS: usize = 8;
 
 pub const BYTES: usize = 32;
 
-// A set of facts 0 to 255.
+// What names a member: a fact or an action.
+pub trait Number: Copy {
+    ghost number: { Self → ℕ };
+
+    fn number(self) -> usize
+        ensures { result ≡ number self };
+}
+
+impl Number for u8 {
+    ghost number = { λ n. n };
+
+    fn number(self) -> usize {
+        usize::from(self)
+    }
+}
+
+impl Number for u16 {
+    ghost number = { λ n. n };
+
+    fn number(self) -> usize {
+        usize::from(self)
+    }
+}
+
+// A set of numbers, 64 for each word.
 #[derive(Clone, Copy, Debug)]
-pub struct FactSet {
-    words: [u64; WORDS],
+pub struct BitSet<const N: usize> {
+    words: [u64; N],
+}
+
+// A set of facts 0 to 255.
+pub type FactSet = BitSet<WORDS>;
+
+// A set of action numbers 0 to 511.
+pub type ActionSet = BitSet<ACTION_WORDS>;
+
+impl<const N: usize> BitSet<N> {
+    pub fn empty() -> BitSet<N>
+        ensures words { result.words ≡ replicate N 0 }
+        ensures members { (n : ℕ) → has result.words n ≡ false }
+    {
+        BitSet { words: [0; N] }
+    }
+
+    pub fn contains<M: Number>(&self, number: M) -> bool
+        ensures { result ≡ has self.now.words (M.number number) }
+    {
+        words::contains(&self.words, number.number())
+    }
+
+    // Adds a number; one past the last that a set can have changes nothing.
+    pub fn insert<M: Number>(&mut self, number: M)
+        ensures words { self.new.words ≡ inserted self.old.words (M.number number) }
+        ensures members { (n : ℕ) → has self.new.words n ≡ (has self.old.words n || (nat_lt (M.number number) (64 * N) && M.number number == n)) }
+    {
+        words::insert(&mut self.words, number.number());
+    }
 }
 
 impl FactSet {
-    pub fn empty() -> FactSet
-        ensures words { result.words ≡ replicate set_words 0 }
-        ensures members { (f : ℕ) → has result.words f ≡ false }
-    {
-        FactSet { words: [0; WORDS] }
-    }
-
-    pub fn contains(&self, fact: u8) -> bool
-        ensures { result ≡ has self.now.words fact }
-    {
-        words::contains(&self.words, usize::from(fact))
-    }
-
-    pub fn insert(&mut self, fact: u8)
-        ensures words { self.new.words ≡ inserted self.old.words fact }
-        ensures members { (f : ℕ) → has self.new.words f ≡ (has self.old.words f || fact == f) }
-    {
-        words::insert(&mut self.words, usize::from(fact));
-    }
-
     // The lowest fact of the set that is not below `from`.
     pub fn next(&self, from: usize) -> Option<u8>
         ensures { Next self.now.words from result }

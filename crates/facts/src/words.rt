@@ -12,18 +12,20 @@ const WORD_BYTES: usize = 8;
 // odd, so that nothing is lost, and of irregular bits: 2^64 over the golden ratio
 const SPREAD: u64 = 0x9E37_79B9_7F4A_7C15;
 
+// A number past the last word is no member.
 pub(crate) fn contains(words: &[u64], number: usize) -> bool
-    requires { number / 64 < length words.now }
     ensures { result ≡ has words.now number }
 {
-    (words[number / WORD_BITS] >> (number % WORD_BITS)) & 1 == 1
+    number / WORD_BITS < words.len() && (words[number / WORD_BITS] >> (number % WORD_BITS)) & 1 == 1
 }
 
+// A number past the last word changes nothing.
 pub(crate) fn insert(words: &mut [u64], number: usize)
-    requires { number / 64 < length words.old }
     ensures { words.new ≡ inserted words.old number }
 {
-    words[number / WORD_BITS] |= 1u64 << (number % WORD_BITS);
+    if number / WORD_BITS < words.len() {
+        words[number / WORD_BITS] |= 1u64 << (number % WORD_BITS);
+    }
 }
 
 // The lowest member that is not below `from`. It looks at words, so it passes over 64 numbers at a time.

@@ -1,5 +1,5 @@
 use Rattle.facts.proofs.Sets.{has_union, has_without, has_common, subset_has, subset_from_has, none_has, none_from_has, same_sets}
-use Rattle.facts.proofs.Insert.{has_insert}
+use Rattle.facts.proofs.Insert.{has_insert, insert_past}
 use Rattle.facts.proofs.Count.{size_tally}
 use Rattle.facts.proofs.Bytes.{words_back, bytes_back, each_small}
 use Rattle.facts.proofs.laws.sets_are_lawful.Goals as goal
@@ -11,6 +11,7 @@ returns c =
       difference = has_without;
       common = has_common;
       insert = has_insert;
+      insert_past = insert_past;
       subset_gives = subset_has;
       subset_from = subset_from_has;
       none_gives = none_has;
