@@ -1,49 +1,58 @@
 -- Lemmas on cutting a list at a byte.
-use Rattle.std.proofs.Common.{◌≡◌, ℕ, suc, ◌+◌, ◌<◌, ◌≤◌, Bool, cond, eqb, List, [], ◌∷◌, ◌++◌, length, get_or, take, drop, sym, refl, ap, ◌∙◌, ⊎_elim, append_assoc, append-nil, arith}
-use Rattle.std.proofs.lemmas.List.{at_drop_more, at_drop_all, take_more, take_all}
-use Rattle.std.proofs.lemmas.Bool.{cases_Bool, cond_both, eq-eqb, eqb-true, ne_eqb}
-use Rattle.std.specs.List.{AllByRecursion}
+use Rattle.std.proofs.Common.{◌≡◌, ℕ, suc, ◌+◌, ◌-◌, ◌<◌, ◌≤◌, true, false, cond, eqb, not, List, [], ◌∷◌, ◌++◌, ◌≢◌, length, get_or, take, drop, Some, None, refl, ap, ⊎_elim, arith, position}
+use Rattle.std.proofs.lemmas.Bool.{cases_Bool, cond_both, eq-eqb, eqb-true, eqb-false, ne_eqb}
+use Rattle.std.proofs.lemmas.List.{take_rest}
+use Rattle.std.proofs.lemmas.List.Sums.{fails_before_first, passes_at_first}
+use Rattle.std.specs.List.{AllByRecursion, position_or_len}
+use Rattle.std.proofs.lemmas.Grind.{common_steps}
 use Rattle.input_lines.specs.Cuts.{before, behind}
 
--- the first i bytes have no c: what is left gives both parts
-abbrev pub Passed : ℕ → List ℕ → ℕ → Type 0
-Passed c xs i = (take i xs ++ before c (drop i xs) ≡ before c xs) × (behind c (drop i xs) ≡ behind c xs)
+-- where the first c stands, or the length
+abbrev place : ℕ → List ℕ → ℕ
+place c bs = position_or_len (λ b. eqb b c) bs
 
-module _ (c : ℕ) (xs : List ℕ) (i : ℕ) where
-  before_here : i < length xs → before c (drop i xs) ≡ cond (eqb (get_or xs i 0) c) [] (get_or xs i 0 ∷ before c (drop (i + 1) xs))
-  before_here l = at_drop_more (before c) xs i 0 l
+before_at : (c : ℕ) (bs : List ℕ) → take (place c bs) bs ≡ before c bs
+before_at c [] = refl
+before_at c (b ∷ bs) =
+    elim (eqb b c) as (λ t. take (cond (not t) (1 + place c bs) 0) (b ∷ bs) ≡ cond t [] (b ∷ before c bs)) [
+      | true ↦ refl
+      | false ↦ grind (arith, common_steps, before_at c bs)
+    ]
 
-  behind_here : i < length xs → behind c (drop i xs) ≡ cond (eqb (get_or xs i 0) c) (drop (i + 1) xs) (behind c (drop (i + 1) xs))
-  behind_here l = at_drop_more (behind c) xs i 0 l
+behind_at : (c : ℕ) (bs : List ℕ) → drop (place c bs + 1) bs ≡ behind c bs
+behind_at c [] = refl
+behind_at c (b ∷ bs) =
+    elim (eqb b c) as (λ t. drop (cond (not t) (1 + place c bs) 0 + 1) (b ∷ bs) ≡ cond t bs (behind c bs)) [
+      | true ↦ refl
+      | false ↦ grind (arith, common_steps, behind_at c bs)
+    ]
 
-  pub pass_more : i < length xs → (get_or xs i 0 ≡ c → ⊥) → Passed c xs i → Passed c xs (i + 1)
-  pass_more l differs p =
-      let e = ne_eqb (get_or xs i 0) c differs in
-      let b = before_here l ∙ ap (λ (t : Bool). cond t [] (get_or xs i 0 ∷ before c (drop (i + 1) xs))) e in
-      let d = behind_here l ∙ ap (λ (t : Bool). cond t (drop (i + 1) xs) (behind c (drop (i + 1) xs))) e in (
-        ap (λ (ys : List ℕ). ys ++ before c (drop (i + 1) xs)) (take_more xs i 0 l)
-            ∙ append_assoc (take i xs) (get_or xs i 0 ∷ []) (before c (drop (i + 1) xs))
-            ∙ ap (λ (ys : List ℕ). take i xs ++ ys) (sym b)
-            ∙ p.0,
-        sym d ∙ p.1,
-      )
+module _ (c : ℕ) (bs : List ℕ) where
+  pub before_place : (i : ℕ) → Some i ≡ position (λ b. eqb b c) bs → take i bs ≡ before c bs
+  before_place i e = let at : place c bs ≡ i = grind (arith, common_steps) in rw (← at) (before_at c bs)
 
-  pub pass_here : i < length xs → get_or xs i 0 ≡ c → Passed c xs i → (take i xs ≡ before c xs) × (drop (i + 1) xs ≡ behind c xs)
-  pass_here l is p =
-      let e = eq-eqb (get_or xs i 0) c is in
-      let b = before_here l ∙ ap (λ (t : Bool). cond t [] (get_or xs i 0 ∷ before c (drop (i + 1) xs))) e in
-      let d = behind_here l ∙ ap (λ (t : Bool). cond t (drop (i + 1) xs) (behind c (drop (i + 1) xs))) e in (
-        sym (append-nil (take i xs)) ∙ ap (λ (ys : List ℕ). take i xs ++ ys) (sym b) ∙ p.0,
-        sym d ∙ p.1,
-      )
+  pub behind_place : (i : ℕ) → Some i ≡ position (λ b. eqb b c) bs → take (length bs - (i + 1)) (drop (i + 1) bs) ≡ behind c bs
+  behind_place i e = let at : place c bs ≡ i = grind (arith, common_steps) in rw (take_rest bs (i + 1), ← at) (behind_at c bs)
 
-  pub pass_end : length xs ≤ i → Passed c xs i → (xs ≡ before c xs) × (◌≡◌ {A = List ℕ} [] (behind c xs))
-  pass_end l p =
-      let b : before c (drop i xs) ≡ [] = at_drop_all (before c) xs i l in
-      let d : behind c (drop i xs) ≡ [] = at_drop_all (behind c) xs i l in (
-        sym (take_all i xs l) ∙ sym (append-nil (take i xs)) ∙ ap (λ (ys : List ℕ). take i xs ++ ys) (sym b) ∙ p.0,
-        sym d ∙ p.1,
-      )
+  pub before_absent : None ≡ position (λ b. eqb b c) bs → bs ≡ before c bs
+  before_absent e = let at : length bs ≤ place c bs = grind (arith, common_steps) in grind (arith, common_steps, before_at c bs)
+
+  pub behind_absent : None ≡ position (λ b. eqb b c) bs → ◌≡◌ {A = List ℕ} [] (behind c bs)
+  behind_absent e = let at : length bs ≤ place c bs = grind (arith, common_steps) in grind (arith, common_steps, behind_at c bs)
+
+-- the first c stands where the bytes before it end
+module _ (c : ℕ) (bs : List ℕ) where
+  length_before : length (before c bs) ≡ place c bs
+  length_before = grind (arith, common_steps, ap length (before_at c bs))
+
+  pub before_within : length (before c bs) ≤ length bs
+  before_within = grind (arith, common_steps, ap length (before_at c bs))
+
+  pub before_lacks : (k : ℕ) → k < length (before c bs) → get_or bs k 0 ≢ c
+  before_lacks k l = eqb-false (get_or bs k 0) c (fails_before_first (λ b. eqb b c) bs k 0 (omega (arith, length_before)))
+
+  pub before_stops : length (before c bs) < length bs → get_or bs (length (before c bs)) 0 ≡ c
+  before_stops l = rw length_before (eqb-true (get_or bs (place c bs) 0) c (passes_at_first (λ b. eqb b c) bs 0 (omega (arith, length_before))))
 
 -- where a list ends, nothing is left
 pub behind_le : (c : ℕ) (bs : List ℕ) → length (behind c bs) ≤ length bs

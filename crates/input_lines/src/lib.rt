@@ -8,5 +8,5 @@ mod numbers;
 
 pub use cutting::cut;
 pub use laws::lines_are_lawful;
-pub use lines::next_line;
-pub use numbers::number;
+pub use lines::{Lines, next_line};
+pub use numbers::{number, number_of};
