@@ -1,5 +1,6 @@
 ghost use Rattle.std.specs.Prelude.{◌≡◌};
 ghost use Rattle.strips.specs.Numbers.{cause_number};
+ghost use Rattle.strips.specs.Records.{fault};
 
 // Why a task file is refused.
 #[derive(Clone, Copy, PartialEq, Eq, Debug)]
@@ -17,6 +18,7 @@ pub enum Cause {
 }
 
 // The first check that a task file fails, with the record and the field that fail it. Field 3 is the record as a whole.
+// A field goes by its number: the first record and an action name their fields differently.
 #[derive(Clone, Copy, PartialEq, Eq, Debug)]
 pub struct Fault {
     pub cause: Cause,
@@ -24,8 +26,20 @@ pub struct Fault {
     pub field: u8,
 }
 
+impl Fault {
+    pub(crate) fn at(cause: Cause, record: usize, field: u8) -> Fault
+        ensures { result ≡ fault cause «record» field }
+    {
+        Fault {
+            cause,
+            record,
+            field,
+        }
+    }
+}
+
 impl Cause {
-    // The number under which the cause is reported.
+    // The number under which the cause is reported. The method's name says what the number is; `u8::from` would not.
     pub fn number(&self) -> u8
         ensures { result ≡ cause_number self.now }
     {
