@@ -10,5 +10,5 @@ mod relaxation;
 pub use counting::GoalCount;
 pub use estimate::Estimate;
 pub use estimator::Estimator;
-pub use preference::prefer_adding;
+pub use preference::{prefer_adding, prefer_applicable};
 pub use relaxation::plans_relax;

@@ -1,26 +1,22 @@
-ghost use Rattle.std.specs.Prelude.{◌≡◌, ℕ};
+ghost use Rattle.std.specs.Prelude.{◌≡◌, ℕ, length};
+ghost use Rattle.std.specs.Fn.{FnReturnsAt};
 ghost use Rattle.facts.specs.Words.{has};
-ghost use Rattle.heuristic.specs.Useful.{Considered, useful};
+ghost use Rattle.heuristic.specs.Useful.{applicable_here, Picks, useful};
+ghost use Rattle.strips.specs.Sound.{act};
 
 use facts::{ActionSet, FactSet};
-use strips::Task;
+use strips::{Action, Task};
 
-// Whether action k is applicable and adds one of the wanted facts.
-fn is_useful(task: &Task, state: &FactSet, wanted: &FactSet, k: usize) -> bool
-    ensures { result ≡ useful task.now.actions.items state.now.words wanted.now.words k }
+// The actions that pass a test.
+fn prefer<F: Fn(&Action) -> bool>(task: &Task, preferred: &mut ActionSet, passes: F)
+    requires { F.IsAlwaysCallable passes }
+    ensures { Picks (λ k. FnReturnsAt F.Fn passes (act task.now.actions.items k)) (length task.now.actions.items) preferred.new.words }
 {
-    match task.action(k) {
-        Some(action) => action.add.intersects(wanted) && action.is_applicable(state),
-        None => false,
-    }
-}
-
-// Adds action k where it is useful.
-fn consider(task: &Task, state: &FactSet, wanted: &FactSet, k: u16, preferred: &mut ActionSet)
-    ensures { Considered (useful task.now.actions.items state.now.words wanted.now.words) k preferred.old.words preferred.new.words }
-{
-    if is_useful(task, state, wanted, usize::from(k)) {
-        preferred.insert(k);
+    *preferred = ActionSet::empty();
+    for (k, action) in task.actions().iter().enumerate() {
+        if passes(action) {
+            preferred.insert(k as u16);
+        }
     }
 }
 
@@ -28,8 +24,16 @@ fn consider(task: &Task, state: &FactSet, wanted: &FactSet, k: u16, preferred: &
 pub fn prefer_adding(task: &Task, state: &FactSet, wanted: &FactSet, preferred: &mut ActionSet)
     ensures { (k : ℕ) → has preferred.new.words k ≡ useful task.now.actions.items state.now.words wanted.now.words k }
 {
-    *preferred = ActionSet::empty();
-    for k in 0..task.action_count() {
-        consider(task, state, wanted, k as u16, preferred);
-    }
+    prefer(
+        task,
+        preferred,
+        |action| action.add.intersects(wanted) && action.is_applicable(state),
+    );
+}
+
+// All applicable actions.
+pub fn prefer_applicable(task: &Task, state: &FactSet, preferred: &mut ActionSet)
+    ensures { (k : ℕ) → has preferred.new.words k ≡ applicable_here task.now.actions.items state.now.words k }
+{
+    prefer(task, preferred, |action| action.is_applicable(state));
 }
