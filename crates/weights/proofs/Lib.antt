@@ -3,4 +3,3 @@ pub mod Greatest
 pub mod Sweeps
 pub mod Lawful
 pub mod Walks
-pub mod Preferred

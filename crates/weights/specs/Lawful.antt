@@ -16,7 +16,8 @@ use Rattle.strips.specs.Sound.{act}
 use Rattle.strips.specs.declared.action.Action.{Action}
 use Rattle.weights.specs.Laws.{ZeroIsTrue}
 use Rattle.weights.specs.Tables.{Capped, Feasible, at_most, cost, fact_count, plus, total, weight}
-use Rattle.weights.specs.Weights.{all_applicable, applicable_here, goal_weight, weights}
+use Rattle.weights.specs.Weights.{all_applicable, goal_weight, weights}
+use Rattle.heuristic.specs.Useful.{applicable_here}
 use Rattle.weights.specs.Order.{steps_never, steps_same, total_capped}
 use Rattle.weights.specs.Greatest.{weights_greatest}
 use Rattle.weights.specs.Sums.{cost_weighed, total_weighed, total_zero, weighed, weighed_below, weighed_never, zero_total}

@@ -1,13 +1,14 @@
 -- The weights of a state's facts, found by lowering from never until nothing falls, and the estimate that sums those of the goals.
-use Rattle.std.specs.Prelude.{ℕ, zero, suc, ◌+◌, min, Bool, true, false, cond, ◌&&◌, List, [], ◌∷◌, map, length, sum_by, nat_lt}
+use Rattle.std.specs.Prelude.{ℕ, zero, suc, ◌+◌, min, Bool, true, false, cond, List, [], ◌∷◌, map, length, sum_by, nat_lt}
 use Rattle.std.specs.List.{range_with_len}
 use Rattle.facts.specs.Words.{has}
 use Rattle.heuristic.specs.Laws.{most_steps}
 use Rattle.heuristic.specs.declared.estimate.Estimate.{Estimate}
 use Rattle.heuristic.specs.declared.estimate.Estimate.TheVariants.{Steps, Never}
-use Rattle.strips.specs.Semantics.{State, applicable}
+use Rattle.strips.specs.Semantics.{State}
 use Rattle.strips.specs.Sound.{act}
 use Rattle.strips.specs.declared.action.Action.{Action}
+use Rattle.heuristic.specs.Useful.{applicable_here}
 use Rattle.weights.specs.Tables.{cost, fact_count, total}
 
 abbrev pub least : Estimate → Estimate → Estimate
@@ -63,10 +64,6 @@ weights acts s = settled acts (height (opening s)) (opening s)
 -- the sum of the goals' weights
 abbrev pub goal_weight : List Action → State → State → Estimate
 goal_weight acts goal s = total (weights acts s) goal fact_count
-
--- action k exists and is applicable
-unfoldable pub applicable_here : List Action → State → ℕ → Bool
-applicable_here acts s k = nat_lt k (length acts) && applicable (act acts k) s
 
 -- every applicable action is preferred, whatever the goals are
 abbrev pub all_applicable : List Action → State → State → ℕ → Bool

@@ -2,10 +2,9 @@ ghost use Rattle.std.specs.Prelude.{◌≡◌};
 ghost use Rattle.weights.specs.Weights.{all_applicable, goal_weight};
 ghost use Rattle.weights.specs.Lawful.{weights_laws};
 
-use crate::preferring::prefer_applicable;
 use crate::table::Weights;
 use facts::{ActionSet, FactSet};
-use heuristic::{Estimate, Estimator};
+use heuristic::{Estimate, Estimator, prefer_applicable};
 use strips::Task;
 
 impl Estimator for Weights {

@@ -4,7 +4,6 @@
 mod adding;
 mod answer;
 pub mod laws;
-mod preferring;
 mod settling;
 mod table;
 
