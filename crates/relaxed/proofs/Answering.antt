@@ -1,8 +1,8 @@
 -- From the table to the answer.
-use Rattle.std.specs.Prelude.{◌≡◌, ℕ, zero, suc, ◌+◌, ◌<◌, ◌≤◌, Bool, true, false, cond, not, ◌&&◌, ◌||◌, List, length, nat_le, nat_lt, refl, ◌/◌, ◌^◌, set, ◌==◌, slice_index}
-use Rattle.std.proofs.Common.{sym, ap, subst, ◌∙◌, ⊎_elim, arith, length-set}
+use Rattle.std.specs.Prelude.{◌≡◌, ℕ, zero, suc, ◌<◌, ◌≤◌, Bool, true, false, cond, not, ◌&&◌, List, length, nat_le, nat_lt, ◌^◌, set, ◌==◌, slice_index}
+use Rattle.std.proofs.Common.{sym, ap, ◌∙◌, ⊎_elim, arith}
 use Rattle.std.proofs.lemmas.Bool.{cases_Bool, lt-ltb, le-ltb, leb-true, and_left, and_right, ne_eqb}
-use Rattle.facts.specs.Words.{has, subset, insert, without}
+use Rattle.facts.specs.Words.{has, subset, without}
 use Rattle.facts.proofs.Sets.{subset_has, has_common, has_without}
 use Rattle.strips.specs.declared.action.Action.{Action}
 use Rattle.strips.specs.Semantics.{State}
@@ -11,11 +11,9 @@ use Rattle.relaxed.specs.Layers.{layer, new_fact}
 use Rattle.relaxed.specs.Plan.{last, first_wanted, relaxed_plan, helpful}
 use Rattle.relaxed.specs.Nodes.{node, wanted_first}
 use Rattle.relaxed.specs.Graph.{Graph, Fresh, Extracts}
-use Rattle.facts.proofs.Insert.{has_insert}
 use Rattle.heuristic.specs.declared.estimate.Estimate.TheVariants.{Steps, Never}
 use Rattle.strips.specs.Sound.{AllWithin}
 use Rattle.heuristic.specs.Useful.{useful}
-use Rattle.heuristic.proofs.Preferring.{considered_false, considered_more}
 use Rattle.heuristic.specs.Words.{useful_same}
 use Rattle.relaxed.specs.Extract.{extracted, treated}
 use Rattle.relaxed.proofs.Marking.{level_is}
@@ -82,16 +80,3 @@ helpful_all facts acts goal s zero k r ns ns' set b z e l g h x w u =
     ∙ useful_same facts acts s set (first_wanted acts goal s 0) k z.few z.small z.within
     (λ f q. w f q ∙ and_right (node ns' f).wanted ((node ns' f).level == 1) (none_one acts s ns' (x.graph s g) f q) ∙ sym (has_first acts goal s 0 f ∙ none_new acts goal s f t))
     ∙ sym (ap (λ (t : ℕ). nat_lt t 257 && useful acts s (first_wanted acts goal s t) k) e)
-
--- the set of facts wanted at level 1
-noted_as : (ws : State) (p : ℕ → Bool) (f : ℕ) (b : Bool) → f < 256 → length ws ≡ 4 → ((k : ℕ) → has ws k ≡ (nat_lt k f && p k)) → b ≡ p f → (length (cond b (insert ws f) ws) ≡ 4) × ((k : ℕ) → has (cond b (insert ws f) ws) k ≡ (nat_lt k (f + 1) && p k))
-unfolding insert
-noted_as ws p f true l e inv h = (
-  length-set ws (f / 64) _ ∙ e,
-  considered_more p ws (insert ws f) f inv (λ j. has_insert ws f j (omega arith) ∙ ap (λ (b : Bool). has ws j || (b && f == j)) h),
-)
-noted_as ws p f false l e inv h = (e, considered_more p ws ws f inv (considered_false p f ws h))
-
-pub noted : (ws ws' : State) (p : ℕ → Bool) (f g : ℕ) → f < 256 → g ≡ f → length ws ≡ 4 → ((k : ℕ) → has ws k ≡ (nat_lt k f && p k)) → ws' ≡ cond (p f) (insert ws g) ws → (length ws' ≡ 4) × ((k : ℕ) → has ws' k ≡ (nat_lt k (f + 1) && p k))
-noted ws ws' p f g l eg e inv h =
-    subst (λ (x : State). (length x ≡ 4) × ((k : ℕ) → has x k ≡ (nat_lt k (f + 1) && p k))) (sym (h ∙ ap (λ (x : ℕ). cond (p f) (insert ws x) ws) eg)) (noted_as ws p f (p f) l e inv refl)
