@@ -1,11 +1,17 @@
 -- Lemmas on the next member of a set.
-use Rattle.std.proofs.Common.{◌≡◌, ℕ, zero, suc, ◌+◌, ◌-◌, ◌*◌, ◌/◌, ◌%◌, ◌^◌, ◌<◌, ◌≤◌, true, false, eqb, List, get_or, sym, refl, ap, ◌∙◌, ⊎_elim, lt_of_lt_of_le, lt_of_le_of_lt, div-one, arith, pow_mono, shr-shr}
+use Rattle.std.proofs.Common.{◌≡◌, ℕ, zero, suc, ◌+◌, ◌-◌, ◌*◌, ◌/◌, ◌%◌, ◌^◌, ◌<◌, ◌≤◌, true, false, eqb, List, Option, get_or, sym, subst, refl, ap, ◌∙◌, ⊎_elim, lt_of_lt_of_le, lt_of_le_of_lt, div-one, arith, pow_mono, shr-shr}
 use native.Mathlib.Nat.{div-eq_of_lt, zero-div}
 use lib.Count.{count_trailing_zeros, under}
 use lib.Pow.{shr_le}
 use Rattle.std.proofs.lemmas.Bool.{cases_lt}
+use Rattle.facts.specs.declared.set.BitSet.{BitSet}
+use Rattle.facts.specs.Members.{Next}
 use Rattle.facts.specs.Words.{bit, has}
 use Rattle.facts.proofs.Sets.{half_bit, pow_two_suc}
+
+-- what an iterator's set has next, where that set is the caller's
+pub next_in : (s t : BitSet 4) (from : ℕ) (r : Option ℕ) → s ≡ t → Next s.words from r → Next t.words from r
+next_in s t from r e next = subst (λ (x : BitSet 4). Next x.words from r) e next
 
 -- t is the place of the lowest bit
 abbrev Lowest : ℕ → ℕ → Type 0

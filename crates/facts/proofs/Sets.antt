@@ -11,6 +11,11 @@ use Rattle.std.proofs.lemmas.Nat.{mod_below, mod-mul-add, div-mul-add, and_le_l}
 use Rattle.std.proofs.ByRecursion.{All-get_or}
 use Rattle.std.proofs.lemmas.List.Edits.{fill_by_more}
 use Rattle.std.proofs.lemmas.Bool.{and_parts, and_from, both_ways, cases_Bool, cases_lt, eq-eqb, ne_eqb, eqb-true, eqb-false}
+use Rattle.std.proofs.lemmas.Slice.Eq.{slice_eq-Decides}
+use Rattle.std.proofs.lemmas.Bool.Decides.{Decides-eqb}
+use Rattle.std.specs.Prelude.{◌↔◌, IsTrue}
+use Rattle.std.specs.Cmp.Lexicographic.{pointwise}
+use Rattle.facts.specs.declared.set.BitSet.{BitSet}
 use Rattle.facts.specs.Words.{bit, has, zipped, minus, union, without, common, every, subset, none, size}
 use Rattle.facts.specs.Field.{number, words}
 
@@ -391,3 +396,9 @@ subset_trans xs ys zs p q =
     let z : ℕ = get_or zs k 0 in
     same_number (bit_and x z) x
     (λ j. omega (arith, bit-and x z j, word_within x y (subset_word xs ys p k) j, word_within y z (subset_word ys zs q k) j)))
+
+-- what `==` of two sets says
+pub sets_equal : {N : ℕ} (s t : BitSet N) (equal : Bool) → equal ≡ pointwise eqb s.words t.words → (IsTrue equal ↔ (s ≡ t))
+sets_equal s t equal e =
+    let words = slice_eq-Decides Decides-eqb s.words t.words equal e in
+    (λ i. ap (λ (ws : List ℕ). record { words = ws }) (words.0 i), λ i. words.1 (ap (λ x. x.words) i))

@@ -1,6 +1,7 @@
 -- The laws of sets as lists of words, of any length.
-use Rattle.std.specs.Prelude.{◌≡◌, ℕ, ◌+◌, ◌*◌, ◌/◌, ◌^◌, ◌<◌, ◌≤◌, true, false, not, ◌&&◌, ◌||◌, List, length, ◌==◌}
+use Rattle.std.specs.Prelude.{◌≡◌, ◌↔◌, IsTrue, Bool, ℕ, ◌+◌, ◌*◌, ◌/◌, ◌^◌, ◌<◌, ◌≤◌, true, false, not, ◌&&◌, ◌||◌, List, length, ◌==◌}
 use Rattle.std.specs.List.{AllByRecursion}
+use Rattle.facts.specs.declared.set.BitSet.{BitSet}
 use Rattle.facts.specs.Words.{has, union, without, common, subset, none, size, insert, tally}
 use Rattle.facts.specs.Field.{words, bytes, part}
 
@@ -44,6 +45,10 @@ NoneFrom = (ws : List ℕ) → Words ws → ((n : ℕ) → has ws n ≡ false) �
 -- sets of as many words that have the same members are equal
 abbrev pub Extensional : Type 0
 Extensional = (xs ys : List ℕ) → length xs ≡ length ys → Words xs → Words ys → ((n : ℕ) → has xs n ≡ has ys n) → xs ≡ ys
+
+-- a test of equality says that two sets are one
+abbrev pub Equal : (BitSet 4 → BitSet 4 → Bool) → Type 0
+Equal eq = (s t : BitSet 4) → IsTrue (eq s t) ↔ (s ≡ t)
 
 -- the size is the number of members
 abbrev pub SizeCounts : Type 0

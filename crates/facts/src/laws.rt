@@ -1,4 +1,6 @@
-ghost use Rattle.facts.specs.Laws.{BytesBack, CommonMembers, DifferenceMembers, Extensional, InsertMembers, InsertPast, NoneFrom, NoneGives, SizeCounts, SubsetFrom, SubsetGives, UnionMembers, WordsBack};
+ghost use Rattle.facts.specs.Laws.{BytesBack, CommonMembers, DifferenceMembers, Equal, Extensional, InsertMembers, InsertPast, NoneFrom, NoneGives, SizeCounts, SubsetFrom, SubsetGives, UnionMembers, WordsBack};
+
+use crate::set::FactSet;
 
 // The laws of sets, for any number of words: specs/Laws.antt has them.
 pub fn sets_are_lawful()
@@ -13,6 +15,7 @@ pub fn sets_are_lawful()
     ensures none_from { NoneFrom }
     ensures extensional { Extensional }
     ensures size_counts { SizeCounts }
+    ensures equal { Equal ⟦<FactSet as PartialEq>⟧.eq }
     ensures words_back { WordsBack }
     ensures bytes_back { BytesBack }
 {}

@@ -2,7 +2,9 @@
 #![tactic(auto)]
 
 pub mod laws;
+mod iter;
 mod set;
 mod words;
 
+pub use iter::Iter;
 pub use set::{ActionSet, BYTES, BitSet, FactSet, Number, WORDS};

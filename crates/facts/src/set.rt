@@ -42,7 +42,7 @@ impl Number for u16 {
 }
 
 // A set of numbers, 64 for each word.
-#[derive(Clone, Copy, Debug)]
+#[derive(Clone, Copy, PartialEq, Eq, Debug)]
 pub struct BitSet<const N: usize> {
     words: [u64; N],
 }
@@ -167,21 +167,4 @@ impl FactSet {
         words::write(&self.words, &mut field);
         field
     }
-}
-
-impl PartialEq for FactSet {
-    ghost eq = { on (λ s. s.words) (pointwise ◌==◌) };
-
-    ghost laws = { Prim.search (comparing, rules) };
-
-    fn eq(&self, other: &FactSet) -> bool
-        ensures test { result ≡ pointwise ◌==◌ self.now.words other.now.words }
-        ensures same { Decides result (self.now ≡ other.now) }
-    {
-        words::same(&self.words, &other.words)
-    }
-}
-
-impl Eq for FactSet {
-    ghost laws = { Prim.search (comparing, rules) };
 }

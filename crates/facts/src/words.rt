@@ -99,18 +99,6 @@ pub(crate) fn remove(words: &mut [u64], other: &[u64])
     }
 }
 
-pub(crate) fn same(words: &[u64], other: &[u64]) -> bool
-    requires { length words.now ≡ length other.now }
-    ensures { Decides result (words.now ≡ other.now) }
-{
-    for i in 0..words.len() {
-        if words[i] != other[i] {
-            return false;
-        }
-    }
-    true
-}
-
 fn stir(mixed: u64, word: u64) -> u64
     ensures { result ≡ stirred mixed word }
 {
