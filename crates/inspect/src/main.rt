@@ -3,7 +3,8 @@
 
 use facts::FactSet;
 use heuristic::{Estimator, GoalCount};
-use inspection::{Move, describe, line_end, make_move};
+use input_lines::Lines;
+use inspection::{Move, describe, make_move};
 use relaxed::RelaxedGraph;
 use std::fs;
 use std::io::Read;
@@ -23,48 +24,45 @@ fn show<E: Estimator>(
     Ok(())
 }
 
-// Prints the lines of all estimators.
-fn show_all(
-    rt: &HostRuntime,
-    graph: &mut RelaxedGraph,
-    weights: &mut Weights,
-    task: &Task,
-    state: &FactSet,
-) -> anyhow::Result<()> {
-    show(rt, "relaxed", graph, task, state)?;
-    show(rt, "weights", weights, task, state)?;
-    show(rt, "count", &mut GoalCount {}, task, state)
+// The estimators that are asked and hold memory.
+#[derive(Drop)]
+struct Estimators {
+    relaxed: RelaxedGraph,
+    weights: Weights,
+}
+
+impl Estimators {
+    // Prints the lines of all estimators.
+    fn show(&mut self, rt: &HostRuntime, task: &Task, state: &FactSet) -> anyhow::Result<()> {
+        show(rt, "relaxed", &mut self.relaxed, task, state)?;
+        show(rt, "weights", &mut self.weights, task, state)?;
+        show(rt, "count", &mut GoalCount {}, task, state)
+    }
 }
 
 // Reads lines, and makes the moves that they name.
 fn follow(rt: &HostRuntime, task: &Task, input: &[u8]) -> anyhow::Result<()> {
-    let mut graph = RelaxedGraph::new();
-    let mut weights = Weights::new();
+    let mut estimators = Estimators {
+        relaxed: RelaxedGraph::new(),
+        weights: Weights::new(),
+    };
     let mut state = task.initial();
-    show_all(rt, &mut graph, &mut weights, task, &state)?;
-    let mut at = 0;
-    while at < input.len() {
-        let end = line_end(input, at);
-        let came = make_move(task, &mut state, &input[at..end]);
+    estimators.show(rt, task, &state)?;
+    for line in Lines(input) {
+        let came = make_move(task, &mut state, line);
         println!(rt; "{came}")?;
         if let Move::Did { action: _ } = came {
-            show_all(rt, &mut graph, &mut weights, task, &state)?;
+            estimators.show(rt, task, &state)?;
         }
-        at = end + 1;
     }
     Ok(())
 }
 
 fn main(rt: HostRuntime) -> anyhow::Result<()> {
-    let file = match fs::read(&rt, "yard.tsk") {
-        Ok(bytes) => bytes,
-        Err(_) => Vec::new(rt.alloc()),
-    };
+    let file = fs::read(&rt, "yard.tsk").unwrap_or_else(|_| Vec::new(rt.alloc()));
     let mut task = Task::new(rt.alloc())?;
     if let Err(fault) = task.read(&file) {
-        let cause = fault.cause.number();
-        let record = fault.record;
-        println!(rt; "task {cause} {record}")?;
+        println!(rt; "task {} {}", fault.cause.number(), fault.record)?;
         return Ok(());
     }
     let mut input = Vec::new(rt.alloc());
