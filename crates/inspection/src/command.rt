@@ -1,22 +1,13 @@
 ghost use Rattle.std.specs.Prelude.{◌≡◌};
 ghost use Rattle.inspection.specs.Commands.{named};
 
-// The longest number of an action.
-const MOST_DIGITS: usize = 3;
+use input_lines::number_of;
 
 // The action that a line names by one to three digits.
+#[tactic(auto, using(input_lines::proofs::Digits::numeral_of_lt))]
 pub fn named_action(line: &[u8]) -> Option<u16>
     ensures { result ≡ named line.now }
 {
-    if line.is_empty() || line.len() > MOST_DIGITS {
-        return None;
-    }
-    let mut value = 0u16;
-    for byte in line {
-        if *byte < b'0' || *byte > b'9' {
-            return None;
-        }
-        value = 10 * value + u16::from(*byte - b'0');
-    }
-    Some(value)
+    let number = number_of::<3>(line)?;
+    Some(number as u16)
 }

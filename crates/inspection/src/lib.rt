@@ -2,11 +2,9 @@
 #![tactic(auto)]
 
 mod command;
-mod lines;
 mod moves;
 mod view;
 
 pub use command::named_action;
-pub use lines::line_end;
 pub use moves::{Move, make_move};
 pub use view::describe;

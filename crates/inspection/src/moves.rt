@@ -31,6 +31,7 @@ impl fmt::Display for Move {
 }
 
 // Carries out the action that the line names, where it can be.
+#[tactic(auto, using(crate::specs::Moves::bad, crate::specs::Moves::no_such_action, crate::specs::Moves::not_applicable))]
 pub fn make_move(task: &Task, state: &mut FactSet, line: &[u8]) -> Move
     ensures { Moves task.now.actions.items state.old.words line.now result state.new.words }
 {

@@ -1,6 +1,6 @@
-ghost use Rattle.std.specs.Prelude.{◌≡◌, ℕ, ◌++◌, length, IfOk, string_bytes, OnOk};
+ghost use Rattle.std.specs.Prelude.{◌≡◌, ◌++◌, length, IfOk, string_bytes, OnOk};
 ghost use Rattle.facts.specs.Words.{has};
-ghost use Rattle.inspection.specs.View.{estimate_text, item, numbers, view};
+ghost use Rattle.inspection.specs.View.{estimate_text, numbers, view};
 
 use facts::{ActionSet, FactSet};
 use heuristic::{Estimate, Estimator};
@@ -17,22 +17,12 @@ fn heading(heap: Global, name: &str, estimate: Estimate) -> Result<String, Alloc
     }
 }
 
-// Adds a number, where it is in the set, a space before it.
-fn add(text: &mut String, set: &ActionSet, k: u16) -> Result<(), AllocError>
-    ensures { OnOk result (string_bytes text.new ≡ string_bytes text.old ++ item (has set.now.words) k) }
-{
-    if !set.contains(k) {
-        return Ok(());
-    }
-    write!(text, " {k}")
-}
-
-// Adds the numbers below `count` that are in the set, rising.
+// Adds the numbers below `count` that are in the set, rising, a space before each.
 fn list(text: &mut String, set: &ActionSet, count: u16) -> Result<(), AllocError>
     ensures { OnOk result (string_bytes text.new ≡ string_bytes text.old ++ numbers (has set.now.words) count) }
 {
-    for k in 0..count {
-        add(text, set, k)?;
+    for k in (0..count).filter(|k| set.contains(*k)) {
+        write!(text, " {k}")?;
     }
     Ok(())
 }
