@@ -1,65 +1,57 @@
 // A heap with a fixed number of places, for every kind of item that has a total order.
 ghost use Rattle.std.specs.Prelude.{◌≡◌, ◌≤◌, [], length, IfOk, IfErr};
-ghost use Rattle.std.specs.declared.cmp.Ordering.{Ordering as AnOrdering};
 ghost use Rattle.std.specs.BinaryHeap.{heap_capacity, heap_items, heap_len};
-ghost use Rattle.bounded_heap.specs.Order.{TotalBy, LeastOf, Layered, held};
+ghost use Rattle.bounded_heap.specs.Order.{Layered, LeastOf, held};
 ghost use Rattle.bounded_heap.specs.Waiting.{Put, Take};
+ghost use Rattle.std.proofs.Props.{props};
 
 use std::alloc::{AllocError, Global};
 use std::cmp::Reverse;
 use std::collections::BinaryHeap;
 
-// What `cmp` answers is a total order.
-pub trait TotalOrder: Ord {
-    ghost order: { Self → Self → AnOrdering };
-
-    ghost total: { TotalBy Self.cmp order };
-}
-
-// A ghost field cannot cite the items' order, so its owner keeps that the heap is layered.
 #[derive(Drop)]
-pub struct BoundedHeap<E: TotalOrder> {
+pub struct BoundedHeap<E: Ord> {
     items: BinaryHeap<Reverse<E>>,
+    // std's `push` promises no exact capacity, so the number of places stands beside it.
     places: usize,
     ghost few: { heap_len items ≤ places },
     ghost reserved: { places ≤ heap_capacity items },
+    ghost layered: { Layered E.Ord.cmp (heap_items items) } by { Prim.hlevel props },
 }
 
-impl<E: TotalOrder> BoundedHeap<E> {
+impl<E: Ord> BoundedHeap<E> {
     pub fn new(heap: Global, places: usize) -> Result<BoundedHeap<E>, AllocError>
-        ensures made { IfOk result (λ h. (held h.items ≡ []) × (h.places ≡ places) × Layered E.TotalOrder.order (heap_items h.items)) }
+        ensures made { IfOk result (λ h. (held h.items ≡ []) × (h.places ≡ places)) }
     {
         let items = BinaryHeap::with_capacity(heap, places)?;
         Ok(BoundedHeap { items, places })
     }
 
     // A refused item comes back.
+    #[tactic(auto, using(crate::proofs::Heaps::pushed))]
     pub fn push(&mut self, item: E) -> Result<(), E>
         ensures change { Put self.old.places (held self.old.items) item result (held self.new.items) }
         ensures back { IfErr result (λ x. x ≡ item) }
         ensures same { self.new.places ≡ self.old.places }
-        ensures layered { Layered E.TotalOrder.order (heap_items self.old.items) → Layered E.TotalOrder.order (heap_items self.new.items) }
     {
         if self.count() == self.places {
             return Err(item);
         }
-        match self.items.push(Reverse(item)) {
-            Ok(()) => Ok(()),
-            Err(_) => unreachable(),
-        }
+        // A place is reserved, so this stores the item.
+        self.items
+            .push(Reverse(item))
+            .map_err(|refused| refused.value.0)
     }
 
     // The least item, if any.
+    #[tactic(auto, using(crate::proofs::Heaps::popped, crate::proofs::Heaps::none_popped))]
     pub fn pop(&mut self) -> Option<E>
         ensures change { Take (held self.old.items) result (held self.new.items) }
         ensures same { self.new.places ≡ self.old.places }
-        ensures least { Layered E.TotalOrder.order (heap_items self.old.items) → LeastOf E.TotalOrder.order (held self.old.items) result }
-        ensures layered { Layered E.TotalOrder.order (heap_items self.old.items) → Layered E.TotalOrder.order (heap_items self.new.items) }
+        ensures least { LeastOf E.Ord.cmp (held self.old.items) result }
     {
-        match self.items.pop() {
-            Some(Reverse(item)) => Some(item),
-            None => None,
-        }
+        let Reverse(item) = self.items.pop()?;
+        Some(item)
     }
 
     pub fn clear(&mut self)
@@ -67,7 +59,6 @@ impl<E: TotalOrder> BoundedHeap<E> {
         E: Drop,
         ensures change { held self.new.items ≡ [] }
         ensures same { self.new.places ≡ self.old.places }
-        ensures layered { Layered E.TotalOrder.order (heap_items self.new.items) }
     {
         self.items.clear();
     }

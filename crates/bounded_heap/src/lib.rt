@@ -1,6 +1,6 @@
-// A heap with a fixed number of places, and what an order owes it.
+// A heap with a fixed number of places.
 #![tactic(auto)]
 
 mod heap;
 
-pub use heap::{BoundedHeap, TotalOrder};
+pub use heap::BoundedHeap;
