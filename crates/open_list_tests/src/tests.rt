@@ -1,6 +1,6 @@
 use bounded_heap::BoundedHeap;
 use open_list::{Entry, Frontier, Queue, drain, fill, refill};
-use ordered_open_list::{ByWeight, GreedyFrontier, WeightedFrontier};
+use ordered_open_list::{ByWeight, GreedyFrontier, Key, Ranked, WeightedFrontier};
 use std::alloc::Global;
 use std::process::Abort;
 use std::test::Fail;
@@ -177,11 +177,11 @@ fn places_serve_again(rt: HostRuntime) -> Result<(), Fail> {
 fn heap_hands_back_what_it_refuses(rt: HostRuntime) -> Result<(), Fail> {
     let mut heap = BoundedHeap::new(rt.alloc(), 1)?;
     let (light, heavy) = (entry(4, 0, 0), entry(2, 1, 0));
-    assert!(rt; heap.push(ByWeight(heavy)).is_ok());
-    match heap.push(ByWeight(light)) {
+    assert!(rt; heap.push(Ranked::<ByWeight>::new(heavy)).is_ok());
+    match heap.push(Ranked::new(light)) {
         Ok(()) => Err(Fail::new("a second item found a place")),
-        Err(ByWeight(back)) => {
-            assert!(rt; back == light);
+        Err(back) => {
+            assert!(rt; back.entry() == light);
             Ok(())
         },
     }

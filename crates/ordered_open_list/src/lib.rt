@@ -1,12 +1,12 @@
 // Open lists that give the least entry first, by weight or by estimate.
 #![tactic(auto)]
 
-mod by_estimate;
-mod by_weight;
-mod greedy;
-mod weighted;
+mod key;
+mod ordered;
+mod rank;
+mod ranked;
 
-pub use by_estimate::ByEstimate;
-pub use by_weight::ByWeight;
-pub use greedy::GreedyFrontier;
-pub use weighted::WeightedFrontier;
+pub use key::Key;
+pub use ordered::{GreedyFrontier, OrderedFrontier, WeightedFrontier};
+pub use rank::{ByEstimate, ByWeight, Rank};
+pub use ranked::Ranked;
