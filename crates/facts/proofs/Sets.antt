@@ -1,9 +1,12 @@
 -- Lemmas on sets as lists of words.
-use Rattle.std.proofs.Common.{◌≡◌, ℕ, zero, suc, ◌+◌, ◌-◌, ◌*◌, ◌/◌, ◌%◌, ◌^◌, ◌<◌, ◌≤◌, min, max, Bool, true, false, not, ◌&&◌, ◌||◌, eqb, List, [], map, length, get_or, take, replicate, set, sym, refl, ap, ◌∙◌, ⊎_elim, div-one, arith, length-set, get_or-set_other, pow_mono, below_more}
+use Rattle.std.proofs.Common.{◌≡◌, ℕ, zero, suc, ◌+◌, ◌-◌, ◌*◌, ◌/◌, ◌%◌, ◌^◌, ◌<◌, ◌≤◌, min, max, Bool, true, false, not, ◌&&◌, ◌||◌, eqb, List, [], ◌∷◌, map, length, get_or, take, replicate, set, sym, refl, ap, ◌∙◌, ⊎_elim, add-one, div-one, arith, length-set, get_or-set_other, pow_mono, below_more}
 use native.Mathlib.Nat.{pow-succ', zero-min, zero-div, div-div-eq-div-mul}
 use lib.Bits.{bit_and, bit_or, bit_xor, and_step, or_step, xor_step, and_shr, or_shr, xor_shr, and_zero_l, and_self, differ}
 use lib.Count.{ones}
-use Rattle.std.specs.List.{range_with_len, AllByRecursion}
+use Rattle.std.specs.List.{range_with_len, AllByRecursion, list_all, list_any, zip}
+use Rattle.std.proofs.lemmas.List.{take_all}
+use Rattle.std.proofs.lemmas.List.Folds.{list_all_more}
+use Rattle.std.proofs.lemmas.Slice.Zip.{length-zip, get_or-zip}
 use Rattle.std.proofs.lemmas.List.FromFn.{fill_by_all, get_or-map-range_with_len, length-map-range_with_len}
 use Rattle.std.proofs.lemmas.List.{get_or_past, get_or-replicate, ext_get_or, length-replicate}
 use Rattle.std.proofs.lemmas.List.Sums.{sum_by_more}
@@ -45,6 +48,44 @@ pub subset_word : (xs ys : List ℕ) → subset xs ys ≡ true → (k : ℕ) →
 unfolding subset
 subset_word xs ys e k =
     ⊎_elim (λ l. eqb-true _ _ (every_true _ (length xs) e k l)) (λ l. rw (get_or_past xs k 0 l) (and_zero_l (get_or ys k 0))) (cases_lt k (length xs))
+
+-- a test of each element, in their order and by their index
+every_so_far : {A : Type 0} (p : A → Bool) (xs : List A) (d : A) (n : ℕ) → n ≤ length xs → list_all p (take n xs) ≡ every (λ k. p (get_or xs k d)) n
+every_so_far p xs d zero l = refl
+every_so_far p xs d (suc n) l =
+    ap (λ (m : ℕ). list_all p (take m xs)) (sym (add-one n)) ∙ list_all_more p xs n d (omega arith) ∙ ap (λ (b : Bool). b && p (get_or xs n d)) (every_so_far p xs d n (omega arith))
+
+every_all : {A : Type 0} (p : A → Bool) (xs : List A) (d : A) → list_all p xs ≡ every (λ k. p (get_or xs k d)) (length xs)
+every_all p xs d = ap (list_all p) (sym (take_all (length xs) xs (omega arith))) ∙ every_so_far p xs d (length xs) (omega arith)
+
+pub any_not : {A : Type 0} (p : A → Bool) (xs : List A) → list_any (λ x. not (p x)) xs ≡ not (list_all p xs)
+any_not p [] = refl
+any_not p (x ∷ xs) = one (p x) _ _ (any_not p xs)
+  where
+    one : (t a b : Bool) → a ≡ not b → (not t || a) ≡ not (t && b)
+    one true a b e = e
+    one false a b e = refl
+
+every_same : (p q : ℕ → Bool) (n : ℕ) → ((k : ℕ) → k < n → p k ≡ q k) → every p n ≡ every q n
+every_same p q zero h = refl
+every_same p q (suc n) h = ap (λ (b : Bool). b && p n) (every_same p q n (λ k l. h k (omega arith))) ∙ ap (λ (b : Bool). every q n && b) (h n (omega arith))
+
+pub none_all : (ws : List ℕ) → list_all (λ w. eqb w 0) ws ≡ none ws
+unfolding none
+none_all ws = every_all (λ w. eqb w 0) ws 0
+
+-- the tests of two lists word by word
+module _ (test : ℕ → ℕ → Bool) (xs ys : List ℕ) (long : length xs ≡ length ys) where
+  pub zip_all : list_all (λ (p : ℕ × ℕ). test p.0 p.1) (zip xs ys) ≡ every (λ k. test (get_or xs k 0) (get_or ys k 0)) (length xs)
+  zip_all =
+      let n : length (zip xs ys) ≡ length xs = omega (arith, length-zip xs ys) in
+      every_all (λ (p : ℕ × ℕ). test p.0 p.1) (zip xs ys) (0, 0)
+      ∙ ap (every (λ k. test (get_or (zip xs ys) k (0, 0)).0 (get_or (zip xs ys) k (0, 0)).1)) n
+      ∙ every_same _ _ (length xs) (λ k l. ap (λ (p : ℕ × ℕ). test p.0 p.1) (get_or-zip xs ys k (0, 0) l (omega arith)))
+
+pub subset_all : (xs ys : List ℕ) → length xs ≡ length ys → list_all (λ (p : ℕ × ℕ). eqb (bit_and p.0 p.1) p.0) (zip xs ys) ≡ subset xs ys
+unfolding subset
+subset_all xs ys e = zip_all (λ x y. eqb (bit_and x y) x) xs ys e
 
 -- bits
 and_odd : (a b : ℕ) → bit_and a b % 2 ≡ min (a % 2) (b % 2)
@@ -311,6 +352,18 @@ pub getD_common : (xs ys : List ℕ) (k : ℕ) → get_or (common xs ys) k 0 ≡
 unfolding common
 getD_common = getD_zipped bit_and refl
 
+pub length_common : (xs ys : List ℕ) → length (common xs ys) ≡ max (length xs) (length ys)
+unfolding common
+length_common = length_zipped bit_and
+
+pub common_all : (xs ys : List ℕ) → length xs ≡ length ys → list_all (λ (p : ℕ × ℕ). eqb (bit_and p.0 p.1) 0) (zip xs ys) ≡ none (common xs ys)
+unfolding none
+common_all xs ys e =
+    let n : length xs ≡ length (common xs ys) = omega (arith, length_common xs ys) in
+    zip_all (λ x y. eqb (bit_and x y) 0) xs ys e
+    ∙ every_same _ _ (length xs) (λ k l. ap (λ (w : ℕ). eqb w 0) (sym (getD_common xs ys k)))
+    ∙ ap (every (λ k. eqb (get_or (common xs ys) k 0) 0)) n
+
 pub has_common : (xs ys : List ℕ) (f : ℕ) → has (common xs ys) f ≡ (has xs f && has ys f)
 unfolding has
 has_common xs ys f =
@@ -343,10 +396,6 @@ none_from_has ws small h =
     (λ k l.
     same_bits 64 (get_or ws k 0) 0 (All-get_or (λ w. w < 2 ^ 64) ws k 0 l small) (omega arith)
     (λ j m. low_zero _ (bit_is (get_or ws k 0) j) (sym (has_at ws k j m) ∙ h (k * 64 + j)) ∙ sym (ap (λ (n : ℕ). n % 2) (zero-div (2 ^ j)))))
-
-pub length_common : (xs ys : List ℕ) → length (common xs ys) ≡ max (length xs) (length ys)
-unfolding common
-length_common = length_zipped bit_and
 
 pub subset_self : (xs : List ℕ) → subset xs xs ≡ true
 subset_self xs = subset_from xs xs (λ k l. and_self (get_or xs k 0))

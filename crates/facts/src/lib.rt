@@ -1,8 +1,8 @@
 // Sets of facts and sets of action numbers, over slices of words.
 #![tactic(auto)]
 
-pub mod laws;
 mod iter;
+pub mod laws;
 mod set;
 mod words;
 

@@ -81,10 +81,7 @@ impl FactSet {
     pub fn next(&self, from: usize) -> Option<u8>
         ensures { Next self.now.words from result }
     {
-        match words::next(&self.words, from) {
-            Some(fact) => Some(fact as u8),
-            None => None,
-        }
+        words::next(&self.words, from).map(|fact| fact as u8)
     }
 
     pub fn is_subset(&self, other: &FactSet) -> bool

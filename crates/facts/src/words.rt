@@ -50,43 +50,34 @@ pub(crate) fn is_subset(words: &[u64], other: &[u64]) -> bool
     ensures test { result ≡ subset words.now other.now }
     ensures members { Decides result ((n : ℕ) → has words.now n ≡ true → has other.now n ≡ true) }
 {
-    for i in 0..words.len() {
-        if words[i] & other[i] != words[i] {
-            return false;
-        }
-    }
-    true
+    words
+        .iter()
+        .zip(other)
+        .all(|(word, other)| *word & *other == *word)
 }
 
 pub(crate) fn is_empty(words: &[u64]) -> bool
     ensures { result ≡ none words.now }
 {
-    for word in words {
-        if *word != 0 {
-            return false;
-        }
-    }
-    true
+    words.iter().all(|word| *word == 0)
 }
 
 pub(crate) fn intersects(words: &[u64], other: &[u64]) -> bool
     requires { length words.now ≡ length other.now }
     ensures { result ≡ not (none (common_of words.now other.now)) }
 {
-    for i in 0..words.len() {
-        if words[i] & other[i] != 0 {
-            return true;
-        }
-    }
-    false
+    words
+        .iter()
+        .zip(other)
+        .any(|(word, other)| *word & *other != 0)
 }
 
 pub(crate) fn unite(words: &mut [u64], other: &[u64])
     requires { length words.old ≡ length other.now }
     ensures { words.new ≡ union_of words.old other.now }
 {
-    for i in 0..words.len() {
-        words[i] |= other[i];
+    for (i, word) in words.iter_mut().enumerate() {
+        *word |= other[i];
     }
 }
 
@@ -94,8 +85,8 @@ pub(crate) fn remove(words: &mut [u64], other: &[u64])
     requires { length words.old ≡ length other.now }
     ensures { words.new ≡ without words.old other.now }
 {
-    for i in 0..words.len() {
-        words[i] &= !other[i];
+    for (i, word) in words.iter_mut().enumerate() {
+        *word &= !other[i];
     }
 }
 
@@ -110,10 +101,7 @@ fn stir(mixed: u64, word: u64) -> u64
 pub(crate) fn digest(words: &[u64]) -> u64
     ensures { result ≡ digest_of words.now }
 {
-    let mut mixed = 0;
-    for word in words {
-        mixed = stir(mixed, *word);
-    }
+    let mixed = words.iter().fold(0, |mixed, word| stir(mixed, *word));
     stir(mixed, 0)
 }
 
@@ -139,8 +127,8 @@ pub(crate) fn read(words: &mut [u64], bytes: &[u8], at: usize)
     requires { at + 8 * length words.old ≤ length bytes.now }
     ensures { words.new ≡ words_at (length words.old) bytes.now at }
 {
-    for i in 0..words.len() {
-        words[i] = read_word(bytes, at + WORD_BYTES * i);
+    for (i, word) in words.iter_mut().enumerate() {
+        *word = read_word(bytes, at + WORD_BYTES * i);
     }
 }
 
@@ -158,7 +146,7 @@ pub(crate) fn write(words: &[u64], field: &mut [u8])
     ensures bytes { field.new ≡ bytes_of (8 * length words.now) words.now }
     ensures read_back { words_at (length words.now) field.new 0 ≡ words.now }
 {
-    for k in 0..field.len() {
-        field[k] = byte_at(words, k);
+    for (k, byte) in field.iter_mut().enumerate() {
+        *byte = byte_at(words, k);
     }
 }

@@ -1,9 +1,10 @@
-use Rattle.std.proofs.Common.{sym, arith}
-use Rattle.facts.proofs.Sets.{none_from, none_fails}
+use Rattle.std.proofs.Common.{eqb, ◌∙◌, rules, tests}
+use Rattle.std.proofs.lemmas.Iterator.{YieldsList-from_slice}
+use Rattle.std.proofs.lemmas.Iterator.Search.{all_from_yields_List}
+use Rattle.facts.proofs.Sets.{none_all}
 use Rattle.facts.proofs.words.is_empty.Goals as goal
 
-pub returns-then-word-ne0 : goal.returns-then-word-ne0
-returns-then-word-ne0 c = sym (none_fails _ c.loop-word.word-index (omega arith) c.if-word-ne0.true)
-
 pub returns : goal.returns
-returns c = sym (none_from _ (λ k l. c.loop-word.invariant k (omega arith)))
+returns c =
+    all_from_yields_List (λ w. eqb w 0) _ _ c.all.result c.all.ensures.ran (YieldsList-from_slice c.args.words.now cc) (λ x b q k. search (rules, tests))
+    ∙ none_all c.args.words.now
