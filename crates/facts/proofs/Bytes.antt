@@ -1,5 +1,5 @@
 -- Lemmas on sets in files.
-use Rattle.std.proofs.Common.{◌≡◌, ℕ, zero, suc, ◌+◌, ◌-◌, ◌*◌, ◌/◌, ◌%◌, ◌^◌, ◌<◌, ◌≤◌, eqb, List, length, get_or, drop, sym, ap, ◌∙◌, ⊎_elim, arith, length-drop, length-take, get_or-drop, get_or-take}
+use Rattle.std.proofs.Common.{◌≡◌, ℕ, zero, suc, ◌+◌, ◌-◌, ◌*◌, ◌/◌, ◌%◌, ◌^◌, ◌<◌, ◌≤◌, eqb, List, length, get_or, drop, sym, refl, ap, ◌∙◌, ⊎_elim, arith, length-drop, length-take, add_assoc, take, get_or-drop, get_or-take}
 use native.Mathlib.Nat.{pow-succ'}
 use Rattle.std.proofs.lemmas.Nat.{shr-shr}
 use Rattle.std.specs.List.{AllByRecursion}
@@ -7,6 +7,8 @@ use Rattle.std.proofs.lemmas.List.FromFn.{get_or-map-range_with_len, length-map-
 use Rattle.std.proofs.ByRecursion.{All-get_or, All-from_get_or}
 use Rattle.std.proofs.lemmas.List.{ext_get_or, get_or_past}
 use Rattle.std.proofs.lemmas.Bool.{cases_lt}
+use Rattle.std.specs.Int.{from_le_bytes}
+use mir.Syntax.{w64}
 use Rattle.facts.specs.Words.{bit, has}
 use Rattle.facts.specs.Field.{number, words, bytes, part}
 use Rattle.facts.proofs.Sets.{has_past, same_bits, same_sets, length_words}
@@ -152,3 +154,11 @@ bytes_back n bs at small l =
     ∙ bit_number 8 bs (at + 8 * (k / 8)) (8 * (k % 8) + j) small (omega arith)
     ∙ rw (p, q))
     ∙ sym r)
+
+-- a word of eight bytes that stand one after another
+pub word_read : (fs bs : List ℕ) (at : ℕ) → fs ≡ take 8 (drop at bs) → from_le_bytes w64 fs ≡ number 8 bs at
+word_read fs bs at e =
+    let byte : (i : ℕ) → i < 8 → get_or fs i 0 ≡ get_or bs (at + i) 0 = λ i l. rw e (get_or-take 8 (drop at bs) i 0 l ∙ get_or-drop at bs i 0) in
+    let first : get_or fs 0 0 ≡ get_or bs at 0 = byte 0 (omega arith) ∙ ap (λ (k : ℕ). get_or bs k 0) (omega arith) in
+    let whole : from_le_bytes w64 fs ≡ get_or fs 0 0 + get_or fs 1 0 * 256 + get_or fs 2 0 * 65536 + get_or fs 3 0 * 16777216 + get_or fs 4 0 * 4294967296 + get_or fs 5 0 * 1099511627776 + get_or fs 6 0 * 281474976710656 + get_or fs 7 0 * 72057594037927936 = refl in
+    whole ∙ simp add_assoc (omega (arith, first, byte 1 (omega arith), byte 2 (omega arith), byte 3 (omega arith), byte 4 (omega arith), byte 5 (omega arith), byte 6 (omega arith), byte 7 (omega arith)))

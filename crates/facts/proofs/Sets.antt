@@ -13,7 +13,7 @@ use Rattle.std.proofs.lemmas.List.Sums.{sum_by_more}
 use Rattle.std.proofs.lemmas.Nat.{mod_below, mod-mul-add, div-mul-add, and_le_l}
 use Rattle.std.proofs.ByRecursion.{All-get_or}
 use Rattle.std.proofs.lemmas.List.Edits.{fill_by_more}
-use Rattle.std.proofs.lemmas.Bool.{and_parts, and_from, both_ways, cases_Bool, cases_lt, eq-eqb, ne_eqb, eqb-true, eqb-false}
+use Rattle.std.proofs.lemmas.Bool.{and_parts, and_from, cases_Bool, cases_lt, eq-eqb, eqb-true, eqb-false}
 use Rattle.std.proofs.lemmas.Slice.Eq.{slice_eq-Decides}
 use Rattle.std.proofs.lemmas.Bool.Decides.{Decides-eqb}
 use Rattle.std.specs.Prelude.{◌↔◌, IsTrue}
@@ -32,17 +32,10 @@ pub every_from : (p : ℕ → Bool) (n : ℕ) → ((k : ℕ) → k < n → p k �
 every_from p zero h = refl
 every_from p (suc n) h = and_from (every p n) (p n) (every_from p n (λ k l. h k (omega arith))) (h n (omega arith))
 
-pub every_false : (p : ℕ → Bool) (n k : ℕ) → k < n → p k ≡ false → every p n ≡ false
-every_false p n k h e = ⊎_elim (λ t. absurd (both_ways (p k) e (every_true p n t k h))) (λ f. f) (cases_Bool (every p n))
-
 -- what a loop over the words shows of `subset`
 pub subset_from : (xs ys : List ℕ) → ((k : ℕ) → k < length xs → bit_and (get_or xs k 0) (get_or ys k 0) ≡ get_or xs k 0) → subset xs ys ≡ true
 unfolding subset
 subset_from xs ys h = every_from _ (length xs) (λ k l. eq-eqb _ _ (h k l))
-
-pub subset_fails : (xs ys : List ℕ) (k : ℕ) → k < length xs → (bit_and (get_or xs k 0) (get_or ys k 0) ≡ get_or xs k 0 → ⊥) → subset xs ys ≡ false
-unfolding subset
-subset_fails xs ys k l h = every_false _ (length xs) k l (ne_eqb _ _ h)
 
 pub subset_word : (xs ys : List ℕ) → subset xs ys ≡ true → (k : ℕ) → bit_and (get_or xs k 0) (get_or ys k 0) ≡ get_or xs k 0
 unfolding subset
@@ -194,10 +187,6 @@ pub none_from : (xs : List ℕ) → ((k : ℕ) → k < length xs → get_or xs k
 unfolding none
 none_from xs h = every_from _ (length xs) (λ k l. eq-eqb _ _ (h k l))
 
-pub none_fails : (xs : List ℕ) (k : ℕ) → k < length xs → (get_or xs k 0 ≡ 0 → ⊥) → none xs ≡ false
-unfolding none
-none_fails xs k l h = every_false _ (length xs) k l (ne_eqb _ _ h)
-
 -- a word of a set that is made of two; past the end all words are 0
 pub getD_zipped : (g : ℕ → ℕ → ℕ) → g 0 0 ≡ 0 → (xs ys : List ℕ) (k : ℕ) → get_or (zipped g xs ys) k 0 ≡ g (get_or xs k 0) (get_or ys k 0)
 getD_zipped g z xs ys k =
@@ -224,10 +213,6 @@ length_without = length_zipped minus
 pub getD_union : (xs ys : List ℕ) (k : ℕ) → get_or (union xs ys) k 0 ≡ bit_or (get_or xs k 0) (get_or ys k 0)
 unfolding union
 getD_union = getD_zipped bit_or refl
-
-pub length_union : (xs ys : List ℕ) → length (union xs ys) ≡ max (length xs) (length ys)
-unfolding union
-length_union = length_zipped bit_or
 
 -- a loop that counts: one word more, and all
 pub size_none : 0 ≡ size []

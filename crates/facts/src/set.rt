@@ -1,12 +1,8 @@
-ghost use Rattle.std.specs.Prelude.{◌≡◌, ℕ, ◌+◌, ◌*◌, ◌/◌, ◌%◌, ◌<◌, ◌≤◌, true, false, not, ◌&&◌, ◌||◌, length, replicate, IfSome, Decides, MatchOption, ◌==◌, nat_lt, slice_index};
+ghost use Rattle.std.specs.Prelude.{◌≡◌, ℕ, ◌+◌, ◌*◌, ◌/◌, ◌%◌, ◌<◌, ◌≤◌, true, false, not, ◌&&◌, ◌||◌, length, replicate, IfSome, IsTrue, ◌↔◌, MatchOption, ◌==◌, nat_lt, slice_index};
 ghost use Rattle.facts.specs.Digest.{digest as digest_of};
 ghost use Rattle.facts.specs.Field.{bytes as bytes_of, field_bytes, part, set_words, words as words_at};
 ghost use Rattle.facts.specs.Members.{Next};
 ghost use Rattle.facts.specs.Words.{bit, common, has, insert as inserted, none, size, subset, union as union_of, without};
-ghost use Rattle.std.specs.Cmp.Rules.{comparing};
-ghost use Rattle.std.proofs.Common.{rules};
-ghost use Rattle.std.specs.Cmp.Lexicographic.{pointwise};
-ghost use Rattle.std.specs.Ordering.{on};
 
 use crate::words;
 
@@ -86,7 +82,7 @@ impl FactSet {
 
     pub fn is_subset(&self, other: &FactSet) -> bool
         ensures test { result ≡ subset self.now.words other.now.words }
-        ensures members { Decides result ((f : ℕ) → has self.now.words f ≡ true → has other.now.words f ≡ true) }
+        ensures members { IsTrue result ↔ ((f : ℕ) → has self.now.words f ≡ true → has other.now.words f ≡ true) }
     {
         words::is_subset(&self.words, &other.words)
     }

@@ -1,5 +1,5 @@
 // Sets as slices of words: number n is bit n % 64 of word n / 64. Every set type is made of these functions.
-ghost use Rattle.std.specs.Prelude.{◌≡◌, ℕ, ◌+◌, ◌*◌, ◌/◌, ◌%◌, ◌^◌, ◌<◌, ◌≤◌, true, not, length, IfSome, Decides, slice_index};
+ghost use Rattle.std.specs.Prelude.{◌≡◌, ℕ, ◌+◌, ◌*◌, ◌/◌, ◌%◌, ◌^◌, ◌<◌, ◌≤◌, true, not, length, IfSome, IsTrue, ◌↔◌, slice_index};
 ghost use Rattle.facts.specs.Digest.{digest as digest_of, stirred};
 ghost use Rattle.facts.specs.Field.{bytes as bytes_of, number as number_at, words as words_at};
 ghost use Rattle.facts.specs.Words.{common as common_of, has, insert as inserted, none, subset, union as union_of, without};
@@ -48,7 +48,7 @@ pub(crate) fn next(words: &[u64], from: usize) -> Option<usize>
 pub(crate) fn is_subset(words: &[u64], other: &[u64]) -> bool
     requires { length words.now ≡ length other.now }
     ensures test { result ≡ subset words.now other.now }
-    ensures members { Decides result ((n : ℕ) → has words.now n ≡ true → has other.now n ≡ true) }
+    ensures members { IsTrue result ↔ ((n : ℕ) → has words.now n ≡ true → has other.now n ≡ true) }
 {
     words
         .iter()
@@ -72,6 +72,7 @@ pub(crate) fn intersects(words: &[u64], other: &[u64]) -> bool
         .any(|(word, other)| *word & *other != 0)
 }
 
+// The two loops that change words read the other set by place: what a loop over `zip` writes has no name in an invariant.
 pub(crate) fn unite(words: &mut [u64], other: &[u64])
     requires { length words.old ≡ length other.now }
     ensures { words.new ≡ union_of words.old other.now }
@@ -110,16 +111,9 @@ fn read_word(bytes: &[u8], at: usize) -> u64
     requires { at + 8 ≤ length bytes.now }
     ensures { result ≡ number_at 8 bytes.now at }
 {
-    u64::from_le_bytes([
-        bytes[at],
-        bytes[at + 1],
-        bytes[at + 2],
-        bytes[at + 3],
-        bytes[at + 4],
-        bytes[at + 5],
-        bytes[at + 6],
-        bytes[at + 7],
-    ])
+    let mut field = [0; WORD_BYTES];
+    field.copy_from_slice(&bytes[at..at + WORD_BYTES]);
+    u64::from_le_bytes(field)
 }
 
 // Fills the words from the bytes from `at` on.
