@@ -1,5 +1,5 @@
 -- Lemmas on following a file record by record.
-use Rattle.std.proofs.Common.{◌≡◌, ℕ, zero, suc, ◌+◌, ◌-◌, ◌*◌, ◌%◌, ◌<◌, ◌≤◌, true, false, List, [], ◌∷◌, ◌++◌, length, get_or, take, sym, refl, ap, ◌∙◌, ⊎_elim, arith, length-append, length-take, take_all, take-take, take_at, take-add}
+use Rattle.std.proofs.Common.{◌≡◌, ℕ, zero, suc, ◌+◌, ◌-◌, ◌*◌, ◌%◌, ◌<◌, ◌≤◌, true, false, List, [], ◌∷◌, ◌++◌, length, get_or, take, Ok, Err, OnOk, IsOk, is_ok, sym, refl, ap, ◌∙◌, ⊎_elim, arith, length-append, length-take, take_all, take-take, take_at, take-add}
 use mathlib.Core.List.{append_cancel_left}
 use Rattle.std.proofs.lemmas.List.{length_push, take_more}
 use Rattle.std.proofs.lemmas.Bool.{both_ways, cases_lt}
@@ -11,11 +11,10 @@ use Rattle.strips.specs.Sound.{act}
 use Rattle.strips.proofs.Runs.{run_more, runs_agree}
 use Rattle.planfile.specs.File.{action_at, actions_of, entry, file, record_bytes, record_count}
 use Rattle.planfile.specs.Laws.{PlanFile, RoundTrip, OneReading}
-use Rattle.planfile.specs.Reads.{Flawed, Follows, Right, Reads, good, bad, goals_false}
+use Rattle.planfile.specs.Reads.{Answer, Flawed, Follows, Right, Reads, ReadsGood, good, bad, goals_false}
 use Rattle.planfile.specs.declared.answer.Flaw.{Flaw}
 use Rattle.planfile.specs.declared.answer.Flaw.TheVariants.{NoSuchAction, PreconditionFalse, StateDiffers, GoalsFalse}
-use Rattle.planfile.specs.declared.answer.Reading.{Reading}
-use Rattle.planfile.specs.declared.answer.Reading.TheVariants.{Good, Bad}
+use Rattle.planfile.specs.declared.answer.Fault.TheVariants.{Bad}
 use Rattle.planfile.proofs.Files.{entry_back, entry_is, file_actions, file_count, file_fixes, file_more, length_entry, length_file}
 
 pub follows_none : (acts : List Action) (s : State) (bs : List ℕ) → Follows acts s bs 0 s
@@ -127,8 +126,11 @@ flaws_agree acts bs i t StateDiffers StateDiffers p q = refl
 flaws_agree acts bs i t StateDiffers GoalsFalse p q = absurd q
 flaws_agree acts bs i t GoalsFalse g p q = absurd p
 
+abbrev answered : ℕ → Flaw → Answer
+answered i f = Err (Bad i f)
+
 -- bytes have one answer
-same_flaw : (acts : List Action) (s : State) (bs : List ℕ) (i j : ℕ) (t u : State) (f g : Flaw) → Follows acts s bs i t → Flawed acts bs i t f → Follows acts s bs j u → Flawed acts bs j u g → Bad i f ≡ Bad j g
+same_flaw : (acts : List Action) (s : State) (bs : List ℕ) (i j : ℕ) (t u : State) (f g : Flaw) → Follows acts s bs i t → Flawed acts bs i t f → Follows acts s bs j u → Flawed acts bs j u g → answered i f ≡ answered j g
 same_flaw acts s bs i j t u f g a p b q =
     ⊎_elim
     (λ l. absurd (no_further acts s bs i j t u f l a p b))
@@ -141,7 +143,7 @@ same_flaw acts s bs i j t u f g a p b q =
     let same : u ≡ t = follows_agree acts s bs i u t moved a in
     let there : Flawed acts bs i u g = rw e q in
     let h = flaws_agree acts bs i t f g p (rw same at there) in
-    ap (λ (n : ℕ). Bad n f) e ∙ ap (Bad j) h)
+    ap (λ (n : ℕ). answered n f) e ∙ ap (answered j) h)
     (cases_lt j i))
     (cases_lt i j)
 
@@ -160,22 +162,24 @@ one_reading acts s goal bs x y (goals_false {t = t} a p) (bad {i = i} {t = u} {f
 one_reading acts s goal bs x y (goals_false a p) (goals_false b q) = refl
 
 -- a good file is that of a plan
-good_file : (acts : List Action) (s goal : State) (bs : List ℕ) → length bs % record_bytes ≡ 0 → Reads acts s goal bs Good → PlanFile acts s goal bs
-good_file acts s goal bs w (good {t = t} f g) =
+good_is_plan : (acts : List Action) (s goal : State) (bs : List ℕ) → length bs % record_bytes ≡ 0 → ReadsGood acts s goal bs → PlanFile acts s goal bs
+good_is_plan acts s goal bs w (good {t = t} f g) =
     (f.ks, (t, f.run, g), sym (take_all (record_bytes * record_count bs) bs (omega arith)) ∙ f.bytes)
 
-pub good_is_plan : (acts : List Action) (s goal : State) (bs : List ℕ) (x : Reading) → length bs % record_bytes ≡ 0 → Reads acts s goal bs x → x ≡ Good → PlanFile acts s goal bs
-good_is_plan acts s goal bs x w r e = good_file acts s goal bs w (rw e at r)
+pub ok_is_plan : (acts : List Action) (s goal : State) (bs : List ℕ) (x : Answer) → length bs % record_bytes ≡ 0 → Reads acts s goal bs x → OnOk x (PlanFile acts s goal bs)
+ok_is_plan acts s goal bs x w (good f g) = good_is_plan acts s goal bs w (good f g)
+ok_is_plan acts s goal bs x w (bad l a p) = tt
+ok_is_plan acts s goal bs x w (goals_false a p) = tt
 
 -- the file of a plan is good
-file_good : (acts : List Action) (s goal : State) (ks bs : List ℕ) → IsPlan acts s goal ks → bs ≡ file acts s ks → Reads acts s goal bs Good
+file_good : (acts : List Action) (s goal : State) (ks bs : List ℕ) → IsPlan acts s goal ks → bs ≡ file acts s ks → ReadsGood acts s goal bs
 file_good acts s goal ks bs p e =
     let n : record_count bs ≡ length ks = ap record_count e ∙ file_count acts s ks in
     let l : length bs ≡ record_bytes * length ks = ap length e ∙ length_file acts s ks in
     good (record { ks = ks; run = p.1; long = sym n; bytes = take_all (record_bytes * record_count bs) bs (omega arith) ∙ e }) p.2
 
-pub plan_is_good : (acts : List Action) (s goal : State) (bs : List ℕ) (x : Reading) → Reads acts s goal bs x → PlanFile acts s goal bs → x ≡ Good
-plan_is_good acts s goal bs x r p = one_reading acts s goal bs x Good r (file_good acts s goal p.0 bs p.1 p.2)
+pub plan_is_ok : (acts : List Action) (s goal : State) (bs : List ℕ) (x : Answer) → Reads acts s goal bs x → PlanFile acts s goal bs → IsOk x
+plan_is_ok acts s goal bs x r p = ap is_ok (one_reading acts s goal bs x (Ok tt) r (file_good acts s goal p.0 bs p.1 p.2))
 
 -- what is written reads back
 pub round_trip : (acts : List Action) (s : State) (ks bs : List ℕ) → bs ≡ file acts s ks → RoundTrip acts s ks bs
@@ -184,7 +188,7 @@ round_trip acts s ks bs e =
       good = λ goal p. file_good acts s goal ks bs p e;
       same = ap actions_of e ∙ file_actions acts s ks;
       only = λ goal cs w r h.
-          let p = good_file acts s goal cs w r in
+          let p = good_is_plan acts s goal cs w r in
           let same : p.0 ≡ ks = sym (file_actions acts s p.0) ∙ ap actions_of (sym p.2) ∙ h in
           p.2 ∙ ap (file acts s) same ∙ sym e;
     }

@@ -1,5 +1,5 @@
 -- Lemmas on carrying out a list of actions place by place.
-use Rattle.std.proofs.Common.{◌≡◌, ℕ, zero, suc, ◌+◌, ◌*◌, ◌<◌, ◌≤◌, true, List, [], ◌∷◌, ◌++◌, length, get_or, take, drop, Err, sym, ap, ◌∙◌, append_assoc, arith, length-take, drop-drop, take_at, drop_at}
+use Rattle.std.proofs.Common.{◌≡◌, ℕ, zero, suc, ◌+◌, ◌*◌, ◌<◌, ◌≤◌, true, List, [], ◌∷◌, ◌++◌, length, get_or, take, drop, Ok, Err, Result, IsOk, IfErr, sym, refl, ap, ◌∙◌, append_assoc, arith, length-take, drop-drop, take_at, drop_at}
 use borrow.Rule.Slice.PartMut.{put_mid}
 use Rattle.std.proofs.lemmas.List.{take_more}
 use Rattle.strips.specs.declared.action.Action.{Action}
@@ -13,8 +13,8 @@ use Rattle.planfile.specs.File.{entry, file, most_records, record_bytes}
 use Rattle.planfile.specs.Writes.{Names, Writes, stuck}
 use Rattle.planfile.specs.declared.answer.Flaw.{Flaw}
 use Rattle.planfile.specs.declared.answer.Flaw.TheVariants.{NoSuchAction, PreconditionFalse, StateDiffers, GoalsFalse}
-use Rattle.planfile.specs.declared.answer.Unwritten.{Unwritten}
-use Rattle.planfile.specs.declared.answer.Unwritten.TheVariants.{Refused, Stuck}
+use Rattle.planfile.specs.declared.answer.Fault.{Fault}
+use Rattle.planfile.specs.declared.answer.Fault.TheVariants.{Refused, Bad}
 use Rattle.planfile.proofs.Files.{file_more, length_file}
 
 -- one place more of the list
@@ -44,13 +44,17 @@ file_further acts s t u ks i k now before l e r eu en =
     x ∙ sym (append_assoc front (entry k u) (drop (record_bytes * (i + 1)) before)) ∙ ap (λ (xs : List ℕ). xs ++ drop (record_bytes * (i + 1)) before) (sym d)
 
 -- an action that can be carried out is not blocked
-pub not_blocked : (acts : List Action) (t : State) (k : ℕ) (f : Flaw) → k < length acts → applicable (act acts k) t ≡ true → Blocked acts t k f → ⊥
+not_blocked : (acts : List Action) (t : State) (k : ℕ) (f : Flaw) → k < length acts → applicable (act acts k) t ≡ true → Blocked acts t k f → ⊥
 not_blocked acts t k NoSuchAction l p h = omega arith
 not_blocked acts t k PreconditionFalse l p h = both_ways _ h.1 p
 not_blocked acts t k StateDiffers l p h = h
 not_blocked acts t k GoalsFalse l p h = h
 
+pub step_is_ok : {X : Type 0} (acts : List Action) (t : State) (k : ℕ) (r : Result X Flaw) → k < length acts → applicable (act acts k) t ≡ true → IfErr r (Blocked acts t k) → IsOk r
+step_is_ok acts t k (Ok x) l p h = refl
+step_is_ok acts t k (Err f) l p h = absurd (not_blocked acts t k f l p h)
+
 -- a list that stops is named as the answer
-pub stuck_there : (facts : State) (acts : List Action) (s : State) (ks before : List ℕ) (e : Unwritten) → length ks ≤ most_records → subset s facts ≡ true → Names acts s ks e → Writes facts acts s ks before (Err e) before
+pub stuck_there : (facts : State) (acts : List Action) (s : State) (ks before : List ℕ) (e : Fault) → length ks ≤ most_records → subset s facts ≡ true → Names acts s ks e → Writes facts acts s ks before (Err e) before
 stuck_there facts acts s ks before (Refused r) l p h = absurd h
-stuck_there facts acts s ks before (Stuck i f) l p h = stuck l p h
+stuck_there facts acts s ks before (Bad i f) l p h = stuck l p h

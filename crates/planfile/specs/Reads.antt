@@ -1,5 +1,5 @@
 -- What reading a plan file answers.
-use Rattle.std.specs.Prelude.{◌≡◌, ℕ, ◌*◌, ◌%◌, ◌<◌, true, false, ◌&&◌, List, length, take, Option, ◌==◌, ◌≢◌, nat_le}
+use Rattle.std.specs.Prelude.{◌≡◌, ℕ, ◌*◌, ◌%◌, ◌<◌, true, false, ◌&&◌, List, length, take, Some, None, Ok, Err, Option, Result, ◌==◌, ◌≢◌, nat_le}
 use Rattle.facts.specs.Checks.{or_else, unless}
 use Rattle.facts.specs.Field.{bytes, field_bytes}
 use Rattle.facts.specs.Words.{subset}
@@ -8,8 +8,8 @@ use Rattle.strips.specs.Semantics.{State, Run, applicable, result}
 use Rattle.strips.specs.Sound.{act}
 use Rattle.planfile.specs.Blocked.{Blocked}
 use Rattle.planfile.specs.File.{action_at, file, most_records, record_bytes, record_count, state_at}
-use Rattle.planfile.specs.declared.answer.Reading.{Reading}
-use Rattle.planfile.specs.declared.answer.Reading.TheVariants.{Good, Bad}
+use Rattle.planfile.specs.declared.answer.Fault.{Fault}
+use Rattle.planfile.specs.declared.answer.Fault.TheVariants.{Refused, Bad}
 use Rattle.planfile.specs.declared.answer.Flaw.{Flaw}
 use Rattle.planfile.specs.declared.answer.Flaw.TheVariants.{NoSuchAction, PreconditionFalse, StateDiffers, GoalsFalse}
 use Rattle.planfile.specs.declared.answer.Refusal.{Refusal}
@@ -43,8 +43,21 @@ Flawed acts bs i t StateDiffers =
     (action_at bs i < length acts) × (applicable (act acts (action_at bs i)) t ≡ true) × (state_at bs i ≢ bytes field_bytes (result (act acts (action_at bs i)) t))
 Flawed acts bs i t GoalsFalse = ⊥
 
+abbrev pub Answer : Type 0
+Answer = Result (Unit {0}) Fault
+
+-- the refusal that an answer tells
+abbrev pub refusal_in : Answer → Option Refusal
+refusal_in (Ok u) = None
+refusal_in (Err (Refused r)) = Some r
+refusal_in (Err (Bad i f)) = None
+
 -- the answer: all records are right and the goals are true at their end; or the first record that is wrong; or the goals are false
-pub data Reads (acts : List Action) (s goal : State) (bs : List ℕ) : Reading → Type 0 where
-  good : {t : State} → Follows acts s bs (record_count bs) t → subset goal t ≡ true → Reads acts s goal bs Good
-  bad : {i : ℕ} {t : State} {f : Flaw} → i < record_count bs → Follows acts s bs i t → Flawed acts bs i t f → Reads acts s goal bs (Bad i f)
-  goals_false : {t : State} → Follows acts s bs (record_count bs) t → subset goal t ≡ false → Reads acts s goal bs (Bad (record_count bs) GoalsFalse)
+pub data Reads (acts : List Action) (s goal : State) (bs : List ℕ) : Answer → Type 0 where
+  good : {t : State} → Follows acts s bs (record_count bs) t → subset goal t ≡ true → Reads acts s goal bs (Ok tt)
+  bad : {i : ℕ} {t : State} {f : Flaw} → i < record_count bs → Follows acts s bs i t → Flawed acts bs i t f → Reads acts s goal bs (Err (Bad i f))
+  goals_false : {t : State} → Follows acts s bs (record_count bs) t → subset goal t ≡ false → Reads acts s goal bs (Err (Bad (record_count bs) GoalsFalse))
+
+-- the records and the end are right
+abbrev pub ReadsGood : List Action → State → State → List ℕ → Type 0
+ReadsGood acts s goal bs = Reads acts s goal bs (Ok tt)

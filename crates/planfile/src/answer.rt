@@ -1,5 +1,6 @@
 ghost use Rattle.std.specs.Prelude.{◌≡◌};
 ghost use Rattle.planfile.specs.Numbers.{flaw_number, refusal_number};
+ghost use Rattle.planfile.specs.declared.answer.Fault.TheVariants.{Refused};
 
 // Why a plan file is neither read nor written.
 #[derive(Clone, Copy, PartialEq, Eq, Debug)]
@@ -22,18 +23,20 @@ pub enum Flaw {
     GoalsFalse,
 }
 
-// What a file is: that of a plan, or one whose first bad record is named. Goals that are false are told with the number of records.
+// Why a file is not that of a plan, or why nothing was written.
 #[derive(Clone, Copy, PartialEq, Eq, Debug)]
-pub enum Reading {
-    Good,
+pub enum Fault {
+    Refused(Refusal),
+    // the first record that is wrong, or that cannot be written. Goals that are false are told with the number of records
     Bad { record: usize, flaw: Flaw },
 }
 
-// Why nothing was written: a refusal, or the place in the list at which it stops to be a run.
-#[derive(Clone, Copy, PartialEq, Eq, Debug)]
-pub enum Unwritten {
-    Refused(Refusal),
-    Stuck { place: usize, flaw: Flaw },
+impl From<Refusal> for Fault {
+    ghost from_gives = { λ r f. f ≡ Refused r };
+
+    fn from(refusal: Refusal) -> Fault {
+        Fault::Refused(refusal)
+    }
 }
 
 impl Refusal {

@@ -5,6 +5,6 @@ mod reader;
 mod steps;
 mod writer;
 
-pub use answer::{Flaw, Reading, Refusal, Unwritten};
-pub use reader::{action_number, read, record_count};
+pub use answer::{Fault, Flaw, Refusal};
+pub use reader::{Record, action_number, number_of, read, record_count, records};
 pub use writer::write;

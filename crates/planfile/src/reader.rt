@@ -1,12 +1,11 @@
-ghost use Rattle.std.specs.Prelude.{◌≡◌, ◌+◌, ◌*◌, ◌<◌, ◌≤◌, length, IfOk, IfErr, Decides, MatchOption};
-ghost use Rattle.facts.specs.Field.{bytes as bytes_of, field_bytes, part};
+ghost use Rattle.std.specs.Prelude.{◌≡◌, ◌↔◌, ◌<◌, ◌≤◌, None, length, IsOk, IsTrue, IfOk, IfErr, OnOk, MatchOption};
 ghost use Rattle.facts.specs.Checks.{fault_in};
-ghost use Rattle.planfile.specs.File.{action_at, record_bytes, record_count};
+ghost use Rattle.facts.specs.Field.{bytes as bytes_of, field_bytes};
+ghost use Rattle.planfile.specs.File.{action_at, record_count, records as records_of, state_at};
 ghost use Rattle.planfile.specs.Laws.{Only, PlanFile};
-ghost use Rattle.planfile.specs.Reads.{Flawed, read_refusal, Reads, Right};
-ghost use Rattle.planfile.specs.declared.answer.Reading.TheVariants.{Good};
+ghost use Rattle.planfile.specs.Reads.{Flawed, read_refusal, Reads, refusal_in, Right};
 
-use crate::answer::{Flaw, Reading, Refusal};
+use crate::answer::{Fault, Flaw, Refusal};
 use crate::steps::step;
 use facts::{BYTES, FactSet};
 use strips::Task;
@@ -15,6 +14,9 @@ pub(crate) const RECORD: usize = 2 + BYTES;
 
 pub(crate) const MOST_RECORDS: usize = 4095;
 
+// an action number in two bytes, and the field of the state after the action
+pub type Record = [u8; RECORD];
+
 // How many records bytes have.
 pub fn record_count(bytes: &[u8]) -> usize
     ensures { result ≡ record_count bytes.now }
@@ -22,40 +24,43 @@ pub fn record_count(bytes: &[u8]) -> usize
     bytes.len() / RECORD
 }
 
+// The records that bytes have.
+pub fn records(bytes: &[u8]) -> &[Record]
+    ensures list { result.now ≡ records_of bytes.now }
+    ensures count { length result.now ≡ record_count bytes.now }
+{
+    bytes.as_chunks::<RECORD>().0
+}
+
+// The action number of a record.
+pub fn number_of(record: &Record) -> u16
+    ensures { result ≡ action_at «record».now 0 }
+{
+    let [low, high, ..] = *record;
+    u16::from_le_bytes([low, high])
+}
+
 // The action number of a record, where the bytes reach that far.
 pub fn action_number(bytes: &[u8], record: usize) -> Option<u16>
     ensures number { MatchOption result (record_count bytes.now ≤ «record») (λ k. («record» < record_count bytes.now) × (k ≡ action_at bytes.now «record»)) }
 {
-    if record >= record_count(bytes) {
-        return None;
-    }
-    let at = RECORD * record;
-    Some(u16::from_le_bytes([bytes[at], bytes[at + 1]]))
+    Some(number_of(records(bytes).get(record)?))
 }
 
-// Whether the field at `at` is that of the state.
-fn is_field(state: &FactSet, bytes: &[u8], at: usize) -> bool
-    requires { at + field_bytes ≤ length bytes.now }
-    ensures { Decides result (part field_bytes bytes.now at ≡ bytes_of field_bytes state.now.words) }
+// Whether a record has the field of the state.
+fn has_state(record: &Record, state: &FactSet) -> bool
+    ensures { IsTrue result ↔ (state_at «record».now 0 ≡ bytes_of field_bytes state.now.words) }
 {
-    let field = state.to_bytes();
-    for k in 0..BYTES {
-        if bytes[at + k] != field[k] {
-            return false;
-        }
-    }
-    true
+    &record[2..] == state.to_bytes().as_slice()
 }
 
 // The state after a record, or what is wrong with it.
-fn follow_record(task: &Task, state: &FactSet, bytes: &[u8], record: usize) -> Result<FactSet, Flaw>
-    requires { record_bytes * «record» + record_bytes ≤ length bytes.now }
-    ensures right { IfOk result (λ t. Right task.now.actions.items bytes.now «record» state.now.words t.words) }
-    ensures flawed { IfErr result (λ f. Flawed task.now.actions.items bytes.now «record» state.now.words f) }
+fn follow_record(task: &Task, state: &FactSet, record: &Record) -> Result<FactSet, Flaw>
+    ensures right { IfOk result (λ t. Right task.now.actions.items «record».now 0 state.now.words t.words) }
+    ensures flawed { IfErr result (λ f. Flawed task.now.actions.items «record».now 0 state.now.words f) }
 {
-    let at = RECORD * record;
-    let next = step(task, state, u16::from_le_bytes([bytes[at], bytes[at + 1]]))?;
-    if is_field(&next, bytes, at + 2) {
+    let next = step(task, state, number_of(record))?;
+    if has_state(record, &next) {
         Ok(next)
     } else {
         Err(Flaw::StateDiffers)
@@ -63,28 +68,26 @@ fn follow_record(task: &Task, state: &FactSet, bytes: &[u8], record: usize) -> R
 }
 
 // What whole records are.
-fn follow(task: &Task, start: &FactSet, goal: &FactSet, bytes: &[u8]) -> Reading
+fn follow(task: &Task, start: &FactSet, goal: &FactSet, bytes: &[u8]) -> Result<(), Fault>
     ensures { Reads task.now.actions.items start.now.words goal.now.words bytes.now result }
 {
+    let records = records(bytes);
     let mut state = *start;
-    let count = record_count(bytes);
-    for record in 0..count {
-        match follow_record(task, &state, bytes, record) {
-            Ok(next) => state = next,
-            Err(flaw) => return Reading::Bad { record, flaw },
-        }
+    for (k, record) in records.iter().enumerate() {
+        state = follow_record(task, &state, record).map_err(|flaw| Fault::Bad { record: k, flaw })?;
     }
     if goal.is_subset(&state) {
-        Reading::Good
+        Ok(())
     } else {
-        Reading::Bad {
-            record: count,
+        Err(Fault::Bad {
+            record: records.len(),
             flaw: Flaw::GoalsFalse,
-        }
+        })
     }
 }
 
 // The first check that fails.
+#[tactic(auto, unfolding(crate::specs::Reads::read_refusal))]
 fn check(task: &Task, start: &FactSet, goal: &FactSet, bytes: &[u8]) -> Result<(), Refusal>
     ensures { fault_in result ≡ read_refusal task.now.facts.words start.now.words goal.now.words bytes.now }
 {
@@ -98,13 +101,14 @@ fn check(task: &Task, start: &FactSet, goal: &FactSet, bytes: &[u8]) -> Result<(
 }
 
 // Tells whether bytes are the file of a plan from the start to the goal, and where they first fail to be.
-pub fn read(task: &Task, start: &FactSet, goal: &FactSet, bytes: &[u8]) -> Result<Reading, Refusal>
-    ensures refusal { fault_in result ≡ read_refusal task.now.facts.words start.now.words goal.now.words bytes.now }
-    ensures reading { IfOk result (λ a. Reads task.now.actions.items start.now.words goal.now.words bytes.now a) }
-    ensures only { IfOk result (λ a. Only task.now.actions.items start.now.words goal.now.words bytes.now a) }
-    ensures good_is_plan { IfOk result (λ a. a ≡ Good → PlanFile task.now.actions.items start.now.words goal.now.words bytes.now) }
-    ensures plan_is_good { IfOk result (λ a. PlanFile task.now.actions.items start.now.words goal.now.words bytes.now → a ≡ Good) }
+// A start and a goal come with no struct: callers hold each by itself, and the contract names each.
+pub fn read(task: &Task, start: &FactSet, goal: &FactSet, bytes: &[u8]) -> Result<(), Fault>
+    ensures refusal { refusal_in result ≡ read_refusal task.now.facts.words start.now.words goal.now.words bytes.now }
+    ensures reading { refusal_in result ≡ None → Reads task.now.actions.items start.now.words goal.now.words bytes.now result }
+    ensures only { refusal_in result ≡ None → Only task.now.actions.items start.now.words goal.now.words bytes.now result }
+    ensures good_is_plan { OnOk result (PlanFile task.now.actions.items start.now.words goal.now.words bytes.now) }
+    ensures plan_is_good { refusal_in result ≡ None → PlanFile task.now.actions.items start.now.words goal.now.words bytes.now → IsOk result }
 {
     check(task, start, goal, bytes)?;
-    Ok(follow(task, start, goal, bytes))
+    follow(task, start, goal, bytes)
 }

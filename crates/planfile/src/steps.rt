@@ -12,9 +12,7 @@ pub(crate) fn step(task: &Task, state: &FactSet, number: u16) -> Result<FactSet,
     ensures next { IfOk result (λ t. (number < length task.now.actions.items) × (applicable (act task.now.actions.items number) state.now.words ≡ true) × (t.words ≡ result_of (act task.now.actions.items number) state.now.words)) }
     ensures blocked { IfErr result (λ f. Blocked task.now.actions.items state.now.words number f) }
 {
-    let Some(action) = task.action(usize::from(number)) else {
-        return Err(Flaw::NoSuchAction);
-    };
+    let action = task.action(usize::from(number)).ok_or(Flaw::NoSuchAction)?;
     if !action.is_applicable(state) {
         return Err(Flaw::PreconditionFalse);
     }

@@ -4,35 +4,33 @@ ghost use Rattle.planfile.specs.Laws.{RoundTrip};
 ghost use Rattle.planfile.specs.Writes.{Names, Writes};
 ghost use Rattle.strips.specs.Semantics.{Run, State};
 
-use crate::answer::{Refusal, Unwritten};
-use crate::reader::{MOST_RECORDS, RECORD};
+use crate::answer::{Fault, Refusal};
+use crate::reader::{MOST_RECORDS, RECORD, Record};
 use crate::steps::step;
 use facts::FactSet;
 use strips::Task;
 
 // The record of an action that leads to the state.
-fn entry(number: u16, state: &FactSet) -> [u8; RECORD]
+fn entry(number: u16, state: &FactSet) -> Record
     ensures { result ≡ entry_of number state.now.words }
 {
-    let [low, high] = number.to_le_bytes();
     let mut record = [0u8; RECORD];
-    record[0] = low;
-    record[1] = high;
-    record[2..RECORD].copy_from_slice(&state.to_bytes());
+    record[..2].copy_from_slice(&number.to_le_bytes());
+    record[2..].copy_from_slice(&state.to_bytes());
     record
 }
 
 // Whether the list runs from the start; else the place at which it stops.
-fn check_run(task: &Task, start: &FactSet, plan: &[u16]) -> Result<(), Unwritten>
+fn check_run(task: &Task, start: &FactSet, plan: &[u16]) -> Result<(), Fault>
     ensures runs { OnOk result ((t : State) × Run task.now.actions.items start.now.words plan.now t) }
     ensures stops { IfErr result (λ e. Names task.now.actions.items start.now.words plan.now e) }
 {
     let mut state = *start;
     for (place, number) in plan.iter().enumerate() {
-        match step(task, &state, *number) {
-            Ok(next) => state = next,
-            Err(flaw) => return Err(Unwritten::Stuck { place, flaw }),
-        }
+        state = step(task, &state, *number).map_err(|flaw| Fault::Bad {
+            record: place,
+            flaw,
+        })?;
     }
     Ok(())
 }
@@ -45,30 +43,28 @@ fn fill(task: &Task, start: &FactSet, plan: &[u16], out: &mut [u8])
 {
     let mut state = *start;
     for (i, number) in plan.iter().enumerate() {
-        match step(task, &state, *number) {
-            Ok(next) => state = next,
-            Err(_) => unreachable(),
-        }
+        state = step(task, &state, *number).unwrap();
+        // A range, since nothing is known of a buffer's bytes once chunks of it were lent.
         let at = RECORD * i;
         out[at..at + RECORD].copy_from_slice(&entry(*number, &state));
     }
 }
 
 // Writes the file of a list of actions from the start on, and answers the bytes used. What stands behind them stays; where nothing can be written the whole buffer stays.
-pub fn write(task: &Task, start: &FactSet, plan: &[u16], out: &mut [u8]) -> Result<usize, Unwritten>
+pub fn write(task: &Task, start: &FactSet, plan: &[u16], out: &mut [u8]) -> Result<usize, Fault>
     ensures writes { Writes task.now.facts.words task.now.actions.items start.now.words plan.now out.old result out.new }
     ensures reads_back { IfOk result (λ n. RoundTrip task.now.actions.items start.now.words plan.now (take n out.new)) }
 {
     if plan.len() > MOST_RECORDS {
-        return Err(Unwritten::Refused(Refusal::FileSize));
+        return Err(Fault::Refused(Refusal::FileSize));
     }
     if !task.admits(start) {
-        return Err(Unwritten::Refused(Refusal::OutsideFacts));
+        return Err(Fault::Refused(Refusal::OutsideFacts));
     }
     check_run(task, start, plan)?;
     let used = RECORD * plan.len();
     if out.len() < used {
-        return Err(Unwritten::Refused(Refusal::BufferTooShort));
+        return Err(Fault::Refused(Refusal::BufferTooShort));
     }
     fill(task, start, plan, out);
     Ok(used)

@@ -11,14 +11,14 @@ use Rattle.strips.specs.Records.{action, action_count, action_fault, action_of, 
 use Rattle.strips.proofs.Faults.{first_same}
 
 -- chunk i of a list
-get_or-first_chunks : (n k i : ℕ) (xs : List ℕ) → i < k → get_or (first_chunks n k xs) i [] ≡ take n (drop (n * i) xs)
+pub get_or-first_chunks : (n k i : ℕ) (xs : List ℕ) → i < k → get_or (first_chunks n k xs) i [] ≡ take n (drop (n * i) xs)
 get_or-first_chunks n zero i xs l = absurd (omega arith)
 get_or-first_chunks n (suc k) zero xs l = let e : n * 0 ≡ 0 = omega arith in ap (λ (m : ℕ). take n (drop m xs)) (sym e)
 get_or-first_chunks n (suc k) (suc i) xs l =
     let e : n + n * i ≡ n * suc i = omega arith in
     get_or-first_chunks n k i (drop n xs) (omega arith) ∙ ap (take n) (drop-drop (n * i) n xs ∙ ap (λ (m : ℕ). drop m xs) e)
 
-length-first_chunks : (n k : ℕ) (xs : List ℕ) → length (first_chunks n k xs) ≡ k
+pub length-first_chunks : (n k : ℕ) (xs : List ℕ) → length (first_chunks n k xs) ≡ k
 length-first_chunks n zero xs = refl
 length-first_chunks n (suc k) xs = ap suc (length-first_chunks n k (drop n xs))
 

@@ -3,4 +3,4 @@ use Rattle.strips.specs.Semantics.{Run}
 use Rattle.planfile.proofs.writer.check_run.Given as goal
 
 abbrev pub invariant-loop-place : goal.invariant-loop-place
-invariant-loop-place l = Run (vec_items l.task.actions) l.start.words (take l.place l.plan) l.state.words
+invariant-loop-place l = Run (vec_items l.task.actions) l.start.words (take l.place-counter l.plan) l.state.words
