@@ -6,10 +6,7 @@ use transcript::Replay;
 
 // The bytes of a file; none where it cannot be read.
 fn read_or_empty(rt: &HostRuntime, path: &str) -> Vec<u8> {
-    match fs::read(rt, path) {
-        Ok(bytes) => bytes,
-        Err(_) => Vec::new(rt.alloc()),
-    }
+    fs::read(rt, path).unwrap_or_else(|_| Vec::new(rt.alloc()))
 }
 
 fn main(rt: HostRuntime) -> anyhow::Result<()> {

@@ -1,9 +1,10 @@
-ghost use Rattle.std.specs.Prelude.{◌≡◌, ◌+◌, ◌<◌, ◌≤◌, [], ◌++◌, IfOk, vec_len, vec_capacity};
-ghost use Rattle.planfile.specs.File.{record_count};
-ghost use Rattle.transcript.specs.Replays.{did, Ends, most_lines, Replays};
+ghost use Rattle.std.specs.Prelude.{◌≡◌, ◌+◌, ◌<◌, ◌≤◌, [], ◌++◌, map, length, IfOk, vec_len, vec_capacity};
+ghost use Rattle.planfile.specs.File.{action_at};
+ghost use Rattle.transcript.specs.Replays.{Ends, most_lines, Replays};
+ghost use Rattle.transcript.specs.declared.line.Line.TheVariants.{Did};
 
 use crate::line::Line;
-use planfile::{Reading, action_number, read, record_count};
+use planfile::{Fault, Record, number_of, read, records};
 use std::alloc::{AllocError, Global};
 use strips::Task;
 
@@ -17,19 +18,17 @@ pub struct Replay {
     ghost room: { most_lines ≤ vec_capacity lines },
 }
 
-// Adds the actions of the first `count` records.
-fn list(bytes: &[u8], count: usize, lines: &mut Vec<Line>)
-    requires count_bound { count ≤ record_count bytes.now }
-    requires count_len_bound { vec_len lines.old + count ≤ vec_capacity lines.old }
-    ensures items { lines.new.items ≡ lines.old.items ++ did bytes.now count }
-    ensures len { vec_len lines.new ≡ vec_len lines.old + count }
+// Adds the actions of records.
+fn list(records: &[Record], lines: &mut Vec<Line>)
+    requires { vec_len lines.old + length records.now ≤ vec_capacity lines.old }
+    ensures items { lines.new.items ≡ lines.old.items ++ map (λ r. Did (action_at r 0)) records.now }
+    ensures len { vec_len lines.new ≡ vec_len lines.old + length records.now }
     ensures capacity { vec_capacity lines.new ≡ vec_capacity lines.old }
 {
-    for i in 0..count {
-        match action_number(bytes, i) {
-            Some(action) => lines.push_reserved(Line::Did { action }),
-            None => unreachable(),
-        }
+    for record in records {
+        lines.push_reserved(Line::Did {
+            action: number_of(record),
+        });
     }
 }
 
@@ -41,24 +40,19 @@ fn follow(task: &Task, bytes: &[u8], lines: &mut Vec<Line>) -> Line
     ensures len { vec_len lines.new < most_lines }
     ensures capacity { vec_capacity lines.new ≡ vec_capacity lines.old }
 {
+    let records = records(bytes);
     match read(task, &task.initial(), &task.goal(), bytes) {
-        Err(refusal) => Line::Refused {
-            number: refusal.number(),
-        },
-        Ok(reading) => match reading {
-            Reading::Good => {
-                let records = record_count(bytes);
-                list(bytes, records, lines);
-                Line::Plan { records }
+        Ok(()) => {
+            list(records, lines);
+            Line::Plan {
+                records: records.len(),
             }
-            Reading::Bad { record, flaw } => {
-                list(bytes, record, lines);
-                Line::Bad {
-                    record,
-                    flaw: flaw.number(),
-                }
-            }
-        },
+        }
+        Err(Fault::Refused(refusal)) => Line::Refused(refusal),
+        Err(Fault::Bad { record, flaw }) => {
+            list(&records[..record], lines);
+            Line::Bad { record, flaw }
+        }
     }
 }
 
@@ -76,14 +70,13 @@ impl Replay {
         ensures { Replays task_file.now plan_file.now self.new.lines.items }
     {
         self.lines.clear();
-        if let Err(fault) = self.task.read(task_file) {
-            self.lines.push_reserved(Line::Task {
-                cause: fault.cause.number(),
+        let last = match self.task.read(task_file) {
+            Ok(()) => follow(&self.task, plan_file, &mut self.lines),
+            Err(fault) => Line::Task {
+                cause: fault.cause,
                 record: fault.record,
-            });
-            return;
-        }
-        let last = follow(&self.task, plan_file, &mut self.lines);
+            },
+        };
         self.lines.push_reserved(last);
     }
 

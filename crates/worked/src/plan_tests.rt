@@ -1,5 +1,5 @@
 use crate::yards::{put, set_of, task_of, three_lifts};
-use planfile::{Flaw, Reading, Refusal, Unwritten, read, write};
+use planfile::{Fault, Flaw, Refusal, read, write};
 use std::test::Fail;
 
 // The file of the plan 2, 0, 1 for three lifts.
@@ -17,74 +17,74 @@ pub fn solution() -> [u8; 102] {
 struct Case {
     at: usize,
     byte: u8,
-    reading: Reading,
+    reading: Result<(), Fault>,
 }
 
 const CASES: [Case; 8] = [
     Case {
         at: 0,
         byte: 2,
-        reading: Reading::Good,
+        reading: Ok(()),
     },
     Case {
         at: 0,
         byte: 3,
-        reading: Reading::Bad {
+        reading: Err(Fault::Bad {
             record: 0,
             flaw: Flaw::NoSuchAction,
-        },
+        }),
     },
     // the high byte counts
     Case {
         at: 35,
         byte: 1,
-        reading: Reading::Bad {
+        reading: Err(Fault::Bad {
             record: 1,
             flaw: Flaw::NoSuchAction,
-        },
+        }),
     },
     // an action that cannot be carried out is told before its state
     Case {
         at: 0,
         byte: 1,
-        reading: Reading::Bad {
+        reading: Err(Fault::Bad {
             record: 0,
             flaw: Flaw::PreconditionFalse,
-        },
+        }),
     },
     // each byte of a state counts, also past the facts in use
     Case {
         at: 2,
         byte: 0,
-        reading: Reading::Bad {
+        reading: Err(Fault::Bad {
             record: 0,
             flaw: Flaw::StateDiffers,
-        },
+        }),
     },
     Case {
         at: 67,
         byte: 0x80,
-        reading: Reading::Bad {
+        reading: Err(Fault::Bad {
             record: 1,
             flaw: Flaw::StateDiffers,
-        },
+        }),
     },
     // another right action with another state
     Case {
         at: 68,
         byte: 0,
-        reading: Reading::Bad {
+        reading: Err(Fault::Bad {
             record: 2,
             flaw: Flaw::StateDiffers,
-        },
+        }),
     },
     Case {
         at: 101,
         byte: 1,
-        reading: Reading::Bad {
+        reading: Err(Fault::Bad {
             record: 2,
             flaw: Flaw::StateDiffers,
-        },
+        }),
     },
 ];
 
@@ -96,7 +96,7 @@ fn readings(rt: HostRuntime) -> Result<(), Fail> {
         put(&mut file, case.at, case.byte);
         assert_eq!(rt;
             read(&task, &task.initial(), &task.goal(), &file),
-            Ok(case.reading)
+            case.reading
         );
     }
     Ok(())
@@ -111,20 +111,20 @@ fn ends(rt: HostRuntime) -> Result<(), Fail> {
     let file = solution();
     assert_eq!(rt;
         read(&task, &start, &goal, &file[0..68]),
-        Ok(Reading::Bad {
+        Err(Fault::Bad {
             record: 2,
             flaw: Flaw::GoalsFalse,
         })
     );
     assert_eq!(rt;
         read(&task, &start, &goal, &[]),
-        Ok(Reading::Bad {
+        Err(Fault::Bad {
             record: 0,
             flaw: Flaw::GoalsFalse,
         })
     );
-    assert_eq!(rt; read(&task, &goal, &goal, &[]), Ok(Reading::Good));
-    assert_eq!(rt; read(&task, &start, &set_of(&[]), &[]), Ok(Reading::Good));
+    assert_eq!(rt; read(&task, &goal, &goal, &[]), Ok(()));
+    assert_eq!(rt; read(&task, &start, &set_of(&[]), &[]), Ok(()));
     Ok(())
 }
 
@@ -138,19 +138,19 @@ fn refusals(rt: HostRuntime) -> Result<(), Fail> {
     let file = solution();
     assert_eq!(rt;
         read(&task, &start, &goal, &file[0..101]),
-        Err(Refusal::FileSize)
+        Err(Fault::Refused(Refusal::FileSize))
     );
     assert_eq!(rt;
         read(&task, &outside, &goal, &file[0..33]),
-        Err(Refusal::FileSize)
+        Err(Fault::Refused(Refusal::FileSize))
     );
     assert_eq!(rt;
         read(&task, &outside, &goal, &file),
-        Err(Refusal::OutsideFacts)
+        Err(Fault::Refused(Refusal::OutsideFacts))
     );
     assert_eq!(rt;
         read(&task, &start, &outside, &file),
-        Err(Refusal::OutsideFacts)
+        Err(Fault::Refused(Refusal::OutsideFacts))
     );
     assert_eq!(rt; Refusal::FileSize.number(), 10);
     assert_eq!(rt; Refusal::OutsideFacts.number(), 6);
@@ -167,18 +167,18 @@ fn longest(rt: HostRuntime) -> Result<(), Fail> {
     let plan = vec![in rt.alloc(); 2u16; 4096]?;
     assert_eq!(rt;
         write(&task, &start, &plan, &mut file),
-        Err(Unwritten::Refused(Refusal::FileSize))
+        Err(Fault::Refused(Refusal::FileSize))
     );
     assert!(rt; plan.len() == 4096 && file.len() == 4096 * 34);
     assert_eq!(rt;
         write(&task, &start, &plan[0..4095], &mut file),
         Ok(4095 * 34)
     );
+    assert_eq!(rt; read(&task, &start, &start, &file[0..4095 * 34]), Ok(()));
     assert_eq!(rt;
-        read(&task, &start, &start, &file[0..4095 * 34]),
-        Ok(Reading::Good)
+        read(&task, &start, &start, &file),
+        Err(Fault::Refused(Refusal::FileSize))
     );
-    assert_eq!(rt; read(&task, &start, &start, &file), Err(Refusal::FileSize));
     Ok(())
 }
 
@@ -206,25 +206,25 @@ fn not_written(rt: HostRuntime) -> Result<(), Fail> {
     let mut out = [9u8; 101];
     assert_eq!(rt;
         write(&task, &set_of(&[3]), &[7], &mut out),
-        Err(Unwritten::Refused(Refusal::OutsideFacts))
+        Err(Fault::Refused(Refusal::OutsideFacts))
     );
     assert_eq!(rt;
         write(&task, &start, &[2, 3, 0], &mut out),
-        Err(Unwritten::Stuck {
-            place: 1,
+        Err(Fault::Bad {
+            record: 1,
             flaw: Flaw::NoSuchAction,
         })
     );
     assert_eq!(rt;
         write(&task, &start, &[0, 2, 1], &mut out),
-        Err(Unwritten::Stuck {
-            place: 0,
+        Err(Fault::Bad {
+            record: 0,
             flaw: Flaw::PreconditionFalse,
         })
     );
     assert_eq!(rt;
         write(&task, &start, &[2, 0, 1], &mut out),
-        Err(Unwritten::Refused(Refusal::BufferTooShort))
+        Err(Fault::Refused(Refusal::BufferTooShort))
     );
     assert!(rt; out == [9u8; 101]);
     Ok(())

@@ -1,7 +1,9 @@
 use crate::plan_tests::solution;
 use crate::yards::{put, three_lifts};
+use planfile::{Flaw, Refusal};
 use std::process::Abort;
 use std::test::Fail;
+use strips::Cause;
 use transcript::{Line, Replay};
 
 // The lines for a plan file with one byte put into the solution.
@@ -33,8 +35,27 @@ fn good_and_bad_files(rt: HostRuntime) -> Result<(), Fail> {
             Line::Plan { records: 3 },
         ],
     )?;
-    replayed(&rt, 0, 1, &[Line::Bad { record: 0, flaw: 2 }])?;
-    replayed(&rt, 36, 1, &[first, Line::Bad { record: 1, flaw: 3 }])
+    replayed(
+        &rt,
+        0,
+        1,
+        &[Line::Bad {
+            record: 0,
+            flaw: Flaw::PreconditionFalse,
+        }],
+    )?;
+    replayed(
+        &rt,
+        36,
+        1,
+        &[
+            first,
+            Line::Bad {
+                record: 1,
+                flaw: Flaw::StateDiffers,
+            },
+        ],
+    )
 }
 
 // A refused task is told before a refused plan file, and each alone.
@@ -45,14 +66,21 @@ fn refused_files(rt: HostRuntime) -> Result<(), Fail> {
     assert!(rt;
         replay.lines()
             == [Line::Task {
-                cause: 1,
+                cause: Cause::Length,
                 record: 0,
             }]
             .as_slice()
     );
     replay.run(&three_lifts(), &[0; 33]);
-    assert!(rt; replay.lines() == [Line::Refused { number: 10 }].as_slice());
+    assert!(rt; replay.lines() == [Line::Refused(Refusal::FileSize)].as_slice());
     replay.run(&three_lifts(), &[]);
-    assert!(rt; replay.lines() == [Line::Bad { record: 0, flaw: 4 }].as_slice());
+    assert!(rt;
+        replay.lines()
+            == [Line::Bad {
+                record: 0,
+                flaw: Flaw::GoalsFalse
+            }]
+            .as_slice()
+    );
     Ok(())
 }

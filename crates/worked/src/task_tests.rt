@@ -138,10 +138,8 @@ const CASES: [Case; 20] = [
 ];
 
 fn told(res: Result<(), Fault>) -> Option<(u8, usize, u8)> {
-    match res {
-        Ok(()) => None,
-        Err(fault) => Some((fault.cause.number(), fault.record, fault.field)),
-    }
+    let fault = res.err()?;
+    Some((fault.cause.number(), fault.record, fault.field))
 }
 
 #[test]
@@ -198,7 +196,7 @@ fn three_lifts_are_read(rt: HostRuntime) -> Result<(), Fail> {
 #[test]
 fn sets(rt: HostRuntime) {
     let ends = set_of(&[0, 63, 64, 255]);
-    assert!(rt; ends.contains(255) && !ends.contains(254));
+    assert!(rt; ends.contains(255u8) && !ends.contains(254u8));
     assert!(rt; set_of(&[63]).is_subset(&ends) && !ends.is_subset(&set_of(&[0, 63, 64])));
     assert!(rt; ends.intersects(&set_of(&[64])) && !ends.intersects(&set_of(&[65])));
     assert_eq!(rt; ends.missing(&set_of(&[0, 1, 64])), 2);

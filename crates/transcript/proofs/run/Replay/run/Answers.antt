@@ -1,10 +1,15 @@
 use Rattle.transcript.proofs.Ending.{replayed, not_replayed}
+use Rattle.transcript.proofs.run.Replay.run.Goals.{in-Ok, in-Err}
 use Rattle.transcript.proofs.run.Replay.run.Goals as goal
-
-pub returns-in-Err : goal.returns-in-Err
-returns-in-Err c = not_replayed _ _ _ _ c.in-Err.fault _ c.in-Err.ensures.fault c.number.ensures c.clear.ensures.items c.push_reserved.ensures.items
 
 pub returns : goal.returns
 returns c =
-    let h = c.in_default.ensures.taken in
-    replayed _ _ _ _ _ _ _ _ _ c.in_default.ensures.fault h.facts h.actions h.initial h.goal c.follow-last.ensures.ends c.push_reserved-2.ensures.items
+    elim c.match-read.branch [
+      | in-Ok w ↦
+          let lines = rw (w.self-is, w.last-is) at c.push_reserved.ensures.items in
+          let h = w.in-Ok.ensures.taken in
+          replayed _ _ _ _ _ _ _ _ _ w.in-Ok.ensures.fault h.facts h.actions h.initial h.goal w.follow-last.ensures.ends lines
+      | in-Err w ↦
+          let lines = rw (w.self-is, w.last-is) at c.push_reserved.ensures.items in
+          not_replayed _ _ _ _ w.in-Err.fault w.in-Err.ensures.fault c.clear.ensures.items lines
+    ]
