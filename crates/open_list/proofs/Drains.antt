@@ -1,9 +1,8 @@
 -- A frontier that is being emptied.
 use Rattle.std.proofs.Common.{◌≡◌, ℕ, ◌<◌, ◌≤◌, List, [], ◌∷◌, ◌++◌, length, take, Ok, Err, vec_items, Result, Vec, sym, refl, ap, ◌∙◌, subst, append_assoc, append-nil, arith, length-append}
 use Rattle.std.specs.List.Sorted.{IsPermutation}
-use Rattle.std.proofs.lemmas.List.Sorted.{IsPermutation-refl, IsPermutation-trans, length_permutation}
+use Rattle.std.proofs.lemmas.List.Sorted.{IsPermutation-refl, IsPermutation-trans, IsPermutation-append_right, length_permutation}
 use Rattle.open_list.specs.Emptied.{Drained, Refilled}
-use Rattle.open_list.proofs.Permuted.{shuffled_behind}
 
 -- of w₀, out came out and w still waits; all of it has a place
 pub record Draining {X : Type 0} (room : ℕ) (w₀ : List X) (room' : ℕ) (w : List X) (out : List X) (cap : ℕ) : Type 0 where
@@ -19,7 +18,7 @@ module _ {X : Type 0} (room : ℕ) (w₀ : List X) where
       → IsPermutation w (x ∷ w') → room'' ≡ room' → out' ≡ out ++ x ∷ [] → cap' ≡ cap → Draining room w₀ room'' w' out' cap'
   draining_more room' room'' w w' out out' cap cap' x d t e o k = record {
     change = subst (IsPermutation w₀) (sym (append_assoc out (x ∷ []) w') ∙ ap (λ ys. ys ++ w') (sym o))
-        (IsPermutation-trans w₀ (out ++ w) (out ++ x ∷ w') d.change (shuffled_behind out w (x ∷ w') t));
+        (IsPermutation-trans w₀ (out ++ w) (out ++ x ∷ w') d.change (IsPermutation-append_right out w (x ∷ w') t));
     same = e ∙ d.same;
     reserved = omega (arith, d.reserved, k);
   }

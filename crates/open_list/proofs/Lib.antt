@@ -1,4 +1,3 @@
 pub mod Permuted
-pub mod Arrivals
 pub mod Fills
 pub mod Drains

@@ -1,5 +1,5 @@
 // A reached row that waits, with the numbers that an order may go by.
-#[derive(Clone, Copy, PartialEq, Eq)]
+#[derive(Clone, Copy, Debug, PartialEq, Eq)]
 pub struct Entry {
     pub row: u16,
     pub estimate: u16,
@@ -7,7 +7,7 @@ pub struct Entry {
 }
 
 // Why an entry is not taken in.
-#[derive(Clone, Copy)]
+#[derive(Clone, Copy, Debug, PartialEq, Eq)]
 pub enum Refusal {
     Full,
 }
