@@ -1,3 +1,4 @@
 pub mod Refused
 pub mod Rows
+pub mod Linked
 pub mod Entered

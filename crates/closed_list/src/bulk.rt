@@ -5,8 +5,6 @@ ghost use Rattle.closed_list.specs.Rows.{numbered};
 
 use crate::row::{Refusal, Row};
 use crate::store::Store;
-use facts::FactSet;
-use heuristic::Estimate;
 use std::alloc::{AllocError, Global};
 
 // how many rows have a number of 16 bits
@@ -22,10 +20,8 @@ pub fn enter_all<S: Store>(store: &mut S, offered: &[Row]) -> usize
     for row in offered {
         match store.enter(*row) {
             Ok(_) => entered += 1,
-            Err(refusal) => match refusal {
-                Refusal::Known => {}
-                Refusal::Full => return entered,
-            },
+            Err(Refusal::Known) => {}
+            Err(Refusal::Full) => return entered,
         }
     }
     entered
@@ -35,18 +31,12 @@ pub fn enter_all<S: Store>(store: &mut S, offered: &[Row]) -> usize
 pub fn read_all<S: Store>(heap: Global, store: &S) -> Result<Vec<Row>, AllocError>
     ensures made { IfOk result (λ v. v.items ≡ take numbered (S.rows store.now)) }
 {
-    let count = store.count().min(NUMBERED);
-    let mut out = Vec::with_capacity(heap, count)?;
-    let mut row = Row {
-        state: FactSet::empty(),
-        parent: 0,
-        action: 0,
-        distance: 0,
-        estimate: Estimate::Never,
-    };
-    for number in 0..count {
-        store.read(number as u16, &mut row);
-        out.push_reserved(row);
+    let mut rows = Vec::with_capacity(heap, store.count().min(NUMBERED))?;
+    for number in 0..=u16::MAX {
+        match store.row(number) {
+            Some(row) => rows.push_reserved(row),
+            None => break,
+        }
     }
-    Ok(out)
+    Ok(rows)
 }

@@ -5,8 +5,10 @@ mod bulk;
 mod row;
 mod scanned;
 mod store;
+mod table;
 
 pub use bulk::{enter_all, read_all};
 pub use row::{Refusal, Row};
 pub use scanned::ScannedStore;
 pub use store::Store;
+pub use table::{Linked, Table};

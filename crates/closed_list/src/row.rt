@@ -5,7 +5,7 @@ use facts::FactSet;
 use heuristic::Estimate;
 
 // A state that was reached: from which row, by which action, after how many actions from row 0, and its estimate.
-#[derive(Clone, Copy)]
+#[derive(Clone, Copy, Debug, PartialEq, Eq)]
 pub struct Row {
     pub state: FactSet,
     pub parent: u16,

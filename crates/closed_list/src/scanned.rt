@@ -1,67 +1,68 @@
 // A closed list that is looked through from its first row on.
-ghost use Rattle.std.specs.Prelude.{◌≡◌, ◌^◌, ◌<◌, ◌≤◌, [], IfOk, vec_len, vec_capacity};
-ghost use Rattle.closed_list.specs.Rows.{Different};
+ghost use Rattle.std.specs.Prelude.{◌≡◌, [], IfOk};
+ghost use Rattle.closed_list.specs.Linked.{rows_of};
+ghost use Rattle.closed_list.specs.Rows.{Different, Find};
 ghost use Rattle.std.proofs.Math.Logic.{∥∥₁_elim};
 ghost use Rattle.std.proofs.Math.Nat.{ℕ_set};
 ghost use Rattle.std.proofs.Common.{rules};
+ghost use Rattle.std.proofs.lemmas.List.{length-map};
 
 use crate::row::{Refusal, Row};
 use crate::store::Store;
+use crate::table::Table;
 use facts::FactSet;
 use std::alloc::{AllocError, Global};
 
 #[derive(Drop)]
 pub struct ScannedStore {
-    table: Vec<Row>,
-    places: usize,
-    ghost few: { vec_len table ≤ places },
-    ghost reserved: { places ≤ vec_capacity table },
-    ghost numbered: { places < 2 ^ 16 },
-    ghost different: { ∥ Different table.items ∥₁ },
+    // The rows need no link.
+    table: Table<()>,
+    ghost different: { ∥ Different (rows_of table.entries.items) ∥₁ },
 }
 
 impl ScannedStore {
     pub fn new(heap: Global, places: u16) -> Result<ScannedStore, AllocError>
-        ensures made { IfOk result (λ s. (s.table.items ≡ []) × (s.places ≡ places)) }
+        ensures made { IfOk result (λ s. (rows_of s.table.entries.items ≡ []) × (s.table.places ≡ places)) }
     {
-        let places = usize::from(places);
-        let table = Vec::with_capacity(heap, places)?;
-        Ok(ScannedStore { table, places })
+        Ok(ScannedStore {
+            table: Table::new(heap, places)?,
+        })
+    }
+
+    // The index of the first row with the state.
+    fn first(&self, state: &FactSet) -> Option<usize>
+        ensures found { Find (rows_of self.now.table.entries.items) state.now.words result }
+    {
+        self.table
+            .entries()
+            .iter()
+            .position(|entry| entry.row.state == *state)
     }
 }
 
 impl Store for ScannedStore {
-    ghost rows = { λ s. s.table.items };
+    ghost rows = { λ s. rows_of s.table.entries.items };
 
-    ghost room = { λ s. s.places };
+    ghost room = { λ s. s.table.places };
 
-    ghost few = { Prim.search rules };
+    ghost few = { Prim.search (rules, length-map) };
 
     ghost different = { λ s i j il jl same. ∥∥₁_elim s.different (ℕ_set i j) (λ d. d i j il jl same) };
 
     fn find(&self, state: &FactSet) -> Option<u16> {
-        for i in 0..self.table.len() {
-            if self.table[i].state == *state {
-                return Some(i as u16);
-            }
-        }
-        None
+        let number = self.first(state)?;
+        Some(number as u16)
     }
 
     fn enter(&mut self, row: Row) -> Result<u16, Refusal> {
-        if let Some(_) = self.find(&row.state) {
+        if self.find(&row.state).is_some() {
             return Err(Refusal::Known);
         }
-        let number = self.table.len();
-        if number == self.places {
-            return Err(Refusal::Full);
-        }
-        self.table.push_reserved(row);
-        Ok(number as u16)
+        self.table.push(row, ())
     }
 
     fn row(&self, number: u16) -> Option<Row> {
-        self.table.get(usize::from(number)).copied()
+        self.table.row(number)
     }
 
     fn clear(&mut self) {
@@ -69,10 +70,10 @@ impl Store for ScannedStore {
     }
 
     fn count(&self) -> usize {
-        self.table.len()
+        self.table.entries().len()
     }
 
     fn places(&self) -> usize {
-        self.places
+        self.table.places()
     }
 }
