@@ -2,12 +2,15 @@
 use Rattle.std.proofs.Common.{◌≡◌, ℕ, ◌+◌, ◌<◌, ◌≤◌, List, [], ◌∷◌, ◌++◌, length, get_or, set, Some, None, Option, sym, refl, ap, ◌∙◌, subst, inl, inr, arith}
 use native.Mathlib.Decide.{dec_lt}
 use Rattle.std.proofs.lemmas.Bool.{cases_eq}
-use Rattle.std.proofs.lemmas.List.{get_or-set_same, get_or-set_other, get_or_append_left, get_or_push, get_or_past, get_or_read}
+use Rattle.std.proofs.lemmas.List.{get_or-set_same, get_or-set_other, get_or_append_left, get_or_push, get_or_past, get_or_read, get_or-map}
 use Rattle.std.proofs.lemmas.Nat.{and_le_r}
 use Rattle.facts.specs.Digest.{digest}
 use Rattle.strips.specs.Semantics.{State}
 use Rattle.closed_list.specs.declared.row.Row.{Row}
-use Rattle.closed_list.specs.Rows.{Absent, At, no_row, row}
+use Rattle.closed_list.specs.declared.table.Linked.{Linked}
+use Rattle.closed_list.specs.Linked.{links_of, rows_of}
+use Rattle.closed_list.specs.Rows.{At, row}
+use Rattle.closed_list.proofs.LinkedRows.{length_rows, row_at}
 use Rattle.closed_list.proofs.Pushed.{length_push, row_old, row_new}
 use Rattle.hashed_list.specs.Buckets.{Heads, Links, bucket, bucket_of, latest}
 use Rattle.hashed_list.proofs.Latest.{UpTo, height, latest_top, latest_at, latest_height, latest_same, latest_here, latest_not_here}
@@ -25,18 +28,23 @@ bucket_within mask s = and_le_r (digest s) mask
 seen : (xs : List (Option ℕ)) (i : ℕ) (x : Option ℕ) → i < length xs → x ≡ get_or xs i x → x ≡ get_or xs i None
 seen xs i x lt e = get_or_read xs i x lt e None
 
-module _ (mask : ℕ) (rows : List Row) (s : State) where
-  pub standing_none : (at : Option ℕ) → Standing mask rows s at → at ≡ None → Absent rows s
-  standing_none at st is k h = subst (λ a. UpTo a k) is (st.above k h)
+-- the entry that code reads under the number i
+module _ (entries read : List (Linked (Option ℕ))) (i j : ℕ) (d : Linked (Option ℕ)) (same : read ≡ entries) (is : j ≡ i) (lt : i < length (rows_of entries)) where
+  entry_is : get_or read j d ≡ get_or entries i d
+  entry_is = ap (λ es. get_or es j d) same ∙ ap (λ k. get_or entries k d) is
 
+  pub entry_row : (get_or read j d).row ≡ row (rows_of entries) i
+  entry_row = ap (λ e. e.row) entry_is ∙ sym (row_at entries i d (omega (arith, lt, length_rows entries)))
+
+  pub entry_link : (get_or read j d).link ≡ get_or (links_of entries) i None
+  entry_link = ap (λ e. e.link) entry_is ∙ sym (get_or-map (λ e. e.link) entries i d None (omega (arith, lt, length_rows entries)))
+
+module _ (mask : ℕ) (rows : List Row) (s : State) where
   pub standing_at : (at : Option ℕ) (i : ℕ) → Standing mask rows s at → at ≡ Some i → i < length rows
   standing_at at i st is = (st.here i is).0
 
-  pub standing_found : (at : Option ℕ) (i j : ℕ) (x : Row) → Standing mask rows s at → at ≡ Some i → j ≡ i → x ≡ get_or rows j x → x.state.words ≡ s → At rows s i
-  standing_found at i j x st is j-i is_x same =
-      let lt = (st.here i is).0 in
-      let x-i : x ≡ row rows i = get_or_read rows j x (omega arith) is_x no_row ∙ ap (row rows) j-i in
-      (lt, ap (λ r. r.state.words) (sym x-i) ∙ same)
+  pub standing_found : (at : Option ℕ) (i : ℕ) → Standing mask rows s at → at ≡ Some i → (row rows i).state.words ≡ s → At rows s i
+  standing_found at i st is same = ((st.here i is).0, same)
 
   pub standing_first : (heads : List (Option ℕ)) (b : ℕ) (at : Option ℕ) → Heads mask rows heads → length heads ≡ mask + 1 → b ≡ bucket mask s → at ≡ get_or heads b at → Standing mask rows s at
   standing_first heads b at hs wide is e =
@@ -48,12 +56,12 @@ module _ (mask : ℕ) (rows : List Row) (s : State) where
       }
 
   -- from row i, which has another state, to the latest before it
-  module _ (links : List (Option ℕ)) (i : ℕ) (at at' : Option ℕ) (st : Standing mask rows s at) (ls : Links mask rows links) (long : length links ≡ length rows) (is : at ≡ Some i) (e : at' ≡ get_or links i at') where
+  module _ (links : List (Option ℕ)) (i : ℕ) (at at' : Option ℕ) (st : Standing mask rows s at) (ls : Links mask rows links) (is : at ≡ Some i) (e : at' ≡ get_or links i None) where
     linked : at' ≡ latest (bucket_of mask rows) (bucket_of mask rows i) i
-    linked = let lt = (st.here i is).0 in seen links i at' (omega arith) e ∙ ls i lt
+    linked = e ∙ ls i (st.here i is).0
 
-    pub standing_next : (x : Row) → x ≡ get_or rows i x → (x.state.words ≡ s → ⊥) → Standing mask rows s at'
-    standing_next x is_x other =
+    pub standing_next : ((row rows i).state.words ≡ s → ⊥) → Standing mask rows s at'
+    standing_next other =
         let here = st.here i is in
         record {
           here = λ j a. let r = latest_at (bucket_of mask rows) (bucket_of mask rows i) i j (sym linked ∙ a) in (omega (arith, r.0, here.0), r.1 ∙ here.1);
@@ -63,8 +71,7 @@ module _ (mask : ℕ) (rows : List Row) (s : State) where
                 | yes lt ↦ subst (λ a. UpTo a k) (sym linked) (latest_top (bucket_of mask rows) (bucket_of mask rows i) i k lt (ap (bucket mask) h.1 ∙ sym here.1))
                 | no ge ↦
                     let k-i : i ≡ k = omega arith in
-                    let x-k : x ≡ row rows k = get_or_read rows i x here.0 is_x no_row ∙ ap (row rows) k-i in
-                    absurd (other (ap (λ r. r.state.words) x-k ∙ h.1))
+                    absurd (other (ap (λ j. (row rows j).state.words) k-i ∙ h.1))
               ];
         }
 
@@ -82,8 +89,8 @@ module _ (mask : ℕ) (rows : List Row) (x : Row) where
   bucket_new : bucket_of mask (rows ++ x ∷ []) (length rows) ≡ bucket mask x.state.words
   bucket_new = ap (λ r. bucket mask r.state.words) (row_new rows x)
 
-  pub heads_push : (heads : List (Option ℕ)) (b n : ℕ) (rows' : List Row) → rows' ≡ rows ++ x ∷ [] → Heads mask rows heads → b ≡ bucket mask x.state.words → n ≡ length rows → length heads ≡ mask + 1 → Heads mask rows' (set heads b (Some n))
-  heads_push heads b n rows' push hs is count wide = subst (λ rs. Heads mask rs (set heads b (Some n))) (sym push) (λ a le.
+  pub heads_pushed : (heads : List (Option ℕ)) (b n : ℕ) (rows' : List Row) → rows' ≡ rows ++ x ∷ [] → Heads mask rows heads → b ≡ bucket mask x.state.words → n ≡ length rows → length heads ≡ mask + 1 → Heads mask rows' (set heads b (Some n))
+  heads_pushed heads b n rows' push hs is count wide = subst (λ rs. Heads mask rs (set heads b (Some n))) (sym push) (λ a le.
       let b-le : b ≤ mask = omega (arith, bucket_within mask x.state.words) in
       let f = bucket_of mask (rows ++ x ∷ []) in
       let long : length (rows ++ x ∷ []) ≡ length rows + 1 = length_push rows x in
@@ -96,8 +103,8 @@ module _ (mask : ℕ) (rows : List Row) (x : Row) where
             get_or-set_other heads b a (Some n) None ne ∙ hs a le ∙ latest_same (bucket_of mask rows) f a (length rows) bucket_old ∙ sym l ∙ ap (latest f a) (sym long)
       ])
 
-  pub links_push : (heads links : List (Option ℕ)) (b : ℕ) (at : Option ℕ) (rows' : List Row) (links' : List (Option ℕ)) → rows' ≡ rows ++ x ∷ [] → links' ≡ links ++ at ∷ [] → Heads mask rows heads → Links mask rows links → b ≡ bucket mask x.state.words → length heads ≡ mask + 1 → at ≡ get_or heads b at → length links ≡ length rows → Links mask rows' links'
-  links_push heads links b at rows' links' push link hs ls is wide read same = subst (λ rs. Links mask rs links') (sym push) (subst (Links mask (rows ++ x ∷ [])) (sym link) (λ j lt.
+  pub links_pushed : (heads links : List (Option ℕ)) (b : ℕ) (at : Option ℕ) (rows' : List Row) (links' : List (Option ℕ)) → rows' ≡ rows ++ x ∷ [] → links' ≡ links ++ at ∷ [] → Heads mask rows heads → Links mask rows links → b ≡ bucket mask x.state.words → length heads ≡ mask + 1 → at ≡ get_or heads b at → length links ≡ length rows → Links mask rows' links'
+  links_pushed heads links b at rows' links' push link hs ls is wide read same = subst (λ rs. Links mask rs links') (sym push) (subst (Links mask (rows ++ x ∷ [])) (sym link) (λ j lt.
       let le : b ≤ mask = omega (arith, bucket_within mask x.state.words) in
       let e : at ≡ get_or heads b None = seen heads b at (omega arith) read in
       let f = bucket_of mask (rows ++ x ∷ []) in
@@ -140,9 +147,8 @@ left_first mask rows heads hs wide b k e =
       | no in-mask ↦ let r = latest_at (bucket_of mask rows) b (length rows) k (sym (hs b (omega arith)) ∙ e) in (r.1, omega arith, r.0)
     ]
 
-pub left_next : (mask : ℕ) (rows : List Row) (heads : List (Option ℕ)) (i b : ℕ) (x : Row) → Left mask rows heads i → x ≡ get_or rows i x → i < length rows → b ≡ bucket mask x.state.words → b < length heads → Left mask rows (set heads b None) (i + 1)
-left_next mask rows heads i b x left is_x lt is_b within a k e =
-    let is : b ≡ bucket_of mask rows i = is_b ∙ ap (λ r. bucket mask r.state.words) (get_or_read rows i x lt is_x no_row) in
+pub left_next : (mask : ℕ) (rows : List Row) (heads : List (Option ℕ)) (i b : ℕ) → Left mask rows heads i → b ≡ bucket_of mask rows i → b < length heads → Left mask rows (set heads b None) (i + 1)
+left_next mask rows heads i b left is within a k e =
     elim (cases_eq a b) [
       | inl same ↦ absurd (none_some k (sym (get_or-set_same heads b None None within) ∙ ap (λ c. get_or (set heads b None) c None) (sym same) ∙ e))
       | inr ne ↦

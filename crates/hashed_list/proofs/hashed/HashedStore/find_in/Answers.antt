@@ -1,5 +1,7 @@
-use Rattle.std.proofs.Common.{◌≡◌, ◌+◌, length, vec_items, refl, ap, arith, rules}
-use Rattle.hashed_list.proofs.Chains.{bucket_within, standing_at, standing_found, standing_first, standing_next, standing_lower, standing_none}
+use Rattle.std.proofs.Common.{◌≡◌, ◌+◌, length, vec_items, sym, ap, ◌∙◌, arith}
+use Rattle.std.specs.Cmp.Lexicographic.{same_text, other_text}
+use Rattle.closed_list.proofs.LinkedRows.{length_rows}
+use Rattle.hashed_list.proofs.Chains.{bucket_within, entry_link, entry_row, standing_at, standing_found, standing_first, standing_next, standing_lower}
 use Rattle.hashed_list.proofs.hashed.HashedStore.find_in.Goals as goal
 
 pub index-at-requires : goal.index-at-requires
@@ -11,20 +13,26 @@ loop-at-init c =
     let wide : length (vec_items self.heads) ≡ self.mask + 1 = omega arith in
     standing_first _ _ _ _ _ _ self.latest_of_bucket wide c.requires c.index-at.ensures
 
-pub index-requires : goal.index-requires
-index-requires c = omega (arith, standing_at _ _ _ _ _ c.loop-at.invariant c.in-Some.is)
+pub bounds-entries-from : goal.bounds-entries-from
+bounds-entries-from c =
+    let lt = standing_at _ _ _ _ _ c.loop-at.invariant c.in-Some.is in
+    omega (arith, lt, c.from.ensures, length_rows c.args.self.now.table.entries.items, ap length c.entries-entries.ensures.value)
 
 pub returns-then-eq : goal.returns-then-eq
-returns-then-eq c = let same = ap (λ z. z.words) (c.if-eq.ensures.same.0 refl) in search (rules, standing_found)
-
-pub index-at-requires-in-Some : goal.index-at-requires-in-Some
-index-at-requires-in-Some c = omega (arith, standing_at _ _ _ _ _ c.loop-at.invariant c.in-Some.is)
+returns-then-eq c =
+    let lt = standing_at _ _ _ _ _ c.loop-at.invariant c.in-Some.is in
+    let row = entry_row _ _ _ _ _ c.entries-entries.ensures.value c.from.ensures lt in
+    record { found = standing_found _ _ _ _ _ c.loop-at.invariant c.in-Some.is (sym (ap (λ r. r.state.words) row) ∙ same_text _ _ c.if-eq.ensures) }
 
 pub loop-at-smaller : goal.loop-at-smaller
-loop-at-smaller c = search (rules, standing_lower)
+loop-at-smaller c =
+    let lt = standing_at _ _ _ _ _ c.loop-at.invariant c.in-Some.is in
+    standing_lower _ _ _ _ _ _ _ c.loop-at.invariant c.args.self.now.latest_before c.in-Some.is (entry_link _ _ _ _ _ c.entries-entries.ensures.value c.from.ensures lt)
 
 pub loop-at-preserved : goal.loop-at-preserved
-loop-at-preserved c = search (rules, standing_next)
-
-pub returns : goal.returns
-returns c = search (rules, standing_none)
+loop-at-preserved c =
+    let lt = standing_at _ _ _ _ _ c.loop-at.invariant c.in-Some.is in
+    let is = c.entries-entries.ensures.value in
+    let row = entry_row _ _ _ _ _ is c.from.ensures lt in
+    let link = entry_link _ _ _ _ _ is c.from.ensures lt in
+    standing_next _ _ _ _ _ _ _ c.loop-at.invariant c.args.self.now.latest_before c.in-Some.is link (λ same. other_text _ _ c.if-eq.ensures (ap (λ r. r.state.words) row ∙ same))

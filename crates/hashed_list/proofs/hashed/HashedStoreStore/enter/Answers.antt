@@ -1,26 +1,37 @@
-use Rattle.std.proofs.Common.{◌≡◌, ◌+◌, length, vec_items, sym, subst, arith}
-use Rattle.std.proofs.Math.Logic.{∥∥₁_elim}
+use Rattle.std.proofs.Common.{◌≡◌, ◌+◌, length, vec_items, sym, ap, ◌∙◌, subst, arith}
+use Rattle.closed_list.specs.Linked.{links_of, rows_of}
+use Rattle.closed_list.proofs.LinkedRows.{absent_unfound, different_pushed, length_links, length_rows, links_push, rows_push}
 use Rattle.closed_list.specs.Rows.{Different}
-use Rattle.closed_list.proofs.Differ.{different_push}
-use Rattle.hashed_list.proofs.Chains.{heads_push, links_push}
+use Rattle.hashed_list.specs.Buckets.{Heads, Links}
+use Rattle.hashed_list.proofs.Chains.{heads_pushed, links_pushed}
 use Rattle.hashed_list.proofs.hashed.HashedStoreStore.enter.Goals as goal
 
-pub invariant_of-self-2-clause-latest_of_bucket : goal.invariant_of-self-2-clause-latest_of_bucket
-invariant_of-self-2-clause-latest_of_bucket c =
+pub invariant_of-self : goal.invariant_of-self
+invariant_of-self c =
     let self = c.args.self.now in
-    let items = c.push_reserved.ensures.items in
+    let same = sym c.in_err-number.ensures.change.2 in
+    record {
+      wide = self.wide;
+      latest_of_bucket = subst (λ es. Heads self.mask (rows_of es) (vec_items self.heads)) same self.latest_of_bucket;
+      latest_before = subst (λ es. Links self.mask (rows_of es) (links_of es)) same self.latest_before;
+      different = subst (λ es. ∥ Different (rows_of es) ∥₁) same self.different;
+    }
+
+pub invariant_of-self-2 : goal.invariant_of-self-2
+invariant_of-self-2 c =
+    let self = c.args.self.now in
+    let entries = self.table.entries.items in
+    let pushed = c.in_ok-number.ensures.change in
+    let rows = ap rows_of pushed.2 ∙ rows_push entries _ in
+    let links = ap links_of pushed.2 ∙ links_push entries _ in
     let is = c.bucket-bucket.ensures.value in
     let wide : length (vec_items self.heads) ≡ self.mask + 1 = omega arith in
-    heads_push _ _ _ _ _ _ _ items self.latest_of_bucket is (omega arith) wide
-
-pub invariant_of-self-2-clause-latest_before : goal.invariant_of-self-2-clause-latest_before
-invariant_of-self-2-clause-latest_before c =
-    let self = c.args.self.now in
-    let is = c.bucket-bucket.ensures.value in
-    let wide : length (vec_items self.heads) ≡ self.mask + 1 = omega arith in
-    let long : length (vec_items self.earlier) ≡ length (vec_items self.table) = omega arith in
-    links_push _ _ _ _ _ _ _ _ _ c.push_reserved.ensures.items c.push_reserved-2.ensures.items self.latest_of_bucket self.latest_before is wide c.index.ensures long
-
-pub invariant_of-self-2-clause-different : goal.invariant_of-self-2-clause-different
-invariant_of-self-2-clause-different c =
-    ∥∥₁_elim c.args.self.now.different squash₁ (λ d. ∣ subst Different (sym c.push_reserved.ensures.items) (different_push _ c.args.row d c.in_default.ensures.found) ∣₁)
+    let count : c.in_ok-number.number ≡ length (rows_of entries) = omega (arith, pushed.1, length_rows entries) in
+    let long : length (links_of entries) ≡ length (rows_of entries) = omega (arith, length_rows entries, length_links entries) in
+    let new = absent_unfound _ _ _ c.if-is_some.ensures c.find_in.ensures.found in
+    record {
+      wide = self.wide;
+      latest_of_bucket = heads_pushed _ _ _ _ _ _ _ rows self.latest_of_bucket is count wide;
+      latest_before = links_pushed _ _ _ _ _ _ _ _ _ rows links self.latest_of_bucket self.latest_before is wide c.index.ensures long;
+      different = different_pushed _ _ _ _ _ self.different new c.push.ensures.change;
+    }
