@@ -1,12 +1,11 @@
 -- With places and budget for all states that are reached, a plan call decides; its counts are within the budgets, and its list is short.
-use Rattle.std.proofs.Common.{◌≡◌, ℕ, zero, suc, ◌+◌, ◌<◌, ◌≤◌, List, [], ◌∷◌, map, length, get_or, Option, sym, refl, ap, ◌∙◌, subst, inl, inr, arith, length-append}
+use Rattle.std.proofs.Common.{◌≡◌, ℕ, zero, suc, ◌+◌, ◌<◌, ◌≤◌, List, [], ◌∷◌, map, length, get_or, Some, Err, Option, sym, refl, ap, ◌∙◌, subst, inl, inr, arith, length-append}
 use lib.ListN.{length-map, get_or-map}
 use Rattle.std.proofs.lemmas.List.Sorted.{length_permutation}
-use Rattle.std.specs.declared.option.Option.TheVariants as options
 use Rattle.strips.specs.Semantics.{State}
 use Rattle.open_list.specs.declared.entry.Entry.{Entry}
 use Rattle.closed_list.specs.declared.row.Row.{Row}
-use Rattle.engine.specs.declared.model.Reply.TheVariants.{Full}
+use Rattle.engine.specs.declared.model.StoreFull.{StoreFull}
 use Rattle.engine.specs.Reach.{AtMost}
 use Rattle.strips.specs.Semantics.{Reaches, here, onward}
 use Rattle.closed_list.specs.Rows.{row, no_row}
@@ -57,8 +56,8 @@ run_count : {q : Setting} {budget : ℕ} {s : State} {rows : List Row} {w : List
 run_count (begin {w = w} e p m) = omega (arith, length_permutation _ w m)
 run_count (turn {w = w} r l t) = omega (arith, run_count r, expand_slack t.expands, length_permutation w _ t.taken)
 
-no_place_tree : {q : Setting} {s : State} {i : ℕ} {r : Row} {k : ℕ} {rows : List Row} {w : List Entry} {rows' : List Row} {w' : List Entry} (n : ℕ)
-    → Considers q i r k rows w Full rows' w' → k < length q.acts → Grown q s i r rows → AtMost q.acts s n → n ≤ q.room → ⊥
+no_place_tree : {q : Setting} {s : State} {i : ℕ} {r : Row} {k : ℕ} {rows : List Row} {w : List Entry} {e : StoreFull} {rows' : List Row} {w' : List Entry} (n : ℕ)
+    → Considers q i r k rows w (Err e) rows' w' → k < length q.acts → Grown q s i r rows → AtMost q.acts s n → n ≤ q.room → ⊥
 no_place_tree {q} {s} {i} {r} {k} {rows} n (full (no_place h a e)) kl g most le =
     omega (arith, tree_few q s _ (grown_push q s i k r rows g (kl, h) a).tree n most, length_push rows (child_row q i r k))
 
@@ -98,9 +97,9 @@ length_back rows (suc d) r = length-append (back rows d (row rows r.parent)) (r.
 
 pub hill_short : {q : Setting} {budget : ℕ} {s₀ : State} {p : List ℕ} {s : State} {h n : ℕ} → Hill q budget s₀ p s h n → length p ≤ longest
 hill_short (hills.Hill.start e) = omega arith
-hill_short (on {p = p} {j = j} {rows = rows} x pos l le) = omega (arith, length-append p (path rows j), length_back rows (row rows j).distance (row rows j))
+hill_short (on {p = p} {b = b} {rows = rows} x pos l le) = omega (arith, length-append p (path rows b.row), length_back rows (row rows b.row).distance (row rows b.row))
 
-climbs_short : {q : Setting} {budget : ℕ} {s : State} {n : ℕ} (p : List ℕ) → Climbs q budget s (options.Some p) n → length p ≤ longest
+climbs_short : {q : Setting} {budget : ℕ} {s : State} {n : ℕ} (p : List ℕ) → Climbs q budget s (Some p) n → length p ≤ longest
 climbs_short p (done x) = hill_short x
 
 searched_short : (q : Setting) (budget : ℕ) (s : State) (a : Answer) (m : ℕ) → q.room ≤ 4096 → Searched q budget s a m → Short a

@@ -1,39 +1,45 @@
 -- The constructors of `Generates` at the values that the code computes.
-use Rattle.std.proofs.Common.{◌≡◌, ℕ, ◌+◌, ◌<◌, Bool, true, false, List, [], ◌∷◌, ◌++◌, length, Ok, Err, Result, sym, ap, ◌∙◌, subst, arith}
-use Rattle.facts.specs.declared.set.FactSet.{FactSet}
+use Rattle.std.proofs.Common.{◌≡◌, ℕ, ◌+◌, ◌<◌, true, false, List, [], ◌∷◌, ◌++◌, length, Ok, Err, IsErrAnd, Result, Some, None, sym, ap, ◌∙◌, subst}
+use Rattle.facts.specs.declared.set.BitSet.{BitSet}
 use Rattle.closed_list.specs.declared.row.Row.{Row}
 use Rattle.heuristic.specs.declared.estimate.Estimate.{Estimate}
-use Rattle.closed_list.specs.declared.row.Refusal.{Refusal}
-use Rattle.closed_list.specs.declared.row.Refusal.TheVariants as refusals
-use Rattle.engine.specs.declared.model.Step.TheVariants.{Passed, Full, Entered}
-use Rattle.closed_list.specs.Rows.{At, Absent, row, Enter, Read}
-use Rattle.engine.specs.Generation.{Setting, fits, child, child_row, Generates, known, no_place, enters}
+use Rattle.engine.specs.declared.model.StoreFull.{StoreFull}
+use Rattle.strips.specs.declared.action.Action.{Action}
+use Rattle.strips.specs.Semantics.{applicable, result}
+use Rattle.closed_list.specs.Rows.{At, Absent}
+use Rattle.engine.specs.Generation.{Setting, IsAction, fits, child, child_row, Generates, cannot, known, no_place, enters}
 
-abbrev pub entered : ℕ → Row → ℕ → FactSet → Estimate → Row
+abbrev pub entered : ℕ → Row → ℕ → BitSet 4 → Estimate → Row
 entered i r k s x = record { state = s; parent = i; action = k; distance = r.distance + 1; estimate = x }
 
-module _ (q : Setting) (i : ℕ) (r : Row) (k : ℕ) (rows : List Row) (s : FactSet) (is : s.words ≡ child q r k) (can : fits q r k ≡ true) where
-  pub known_at : (j : ℕ) → At rows s.words j → Generates q i r k rows Passed rows
-  known_at j a = known j can (subst (λ x. At rows x j) is a)
+module _ (q : Setting) (i : ℕ) (r : Row) (k : ℕ) (a : Action) (is : IsAction q.acts k a) (rows : List Row) where
+  pub cannot_at : applicable a r.state.words ≡ false → Generates q i r k rows (Ok None) rows
+  cannot_at not-can = cannot (ap (λ z. applicable z r.state.words) (sym is.1) ∙ not-can)
 
-  pub full_at : Absent rows s.words → length rows ≡ q.room → Generates q i r k rows Full rows
-  full_at a e = no_place can (subst (Absent rows) is a) e
+  module _ (s : BitSet 4) (can : applicable a r.state.words ≡ true) (made : s.words ≡ result a r.state.words) where
+    fit : fits q r k ≡ true
+    fit = ap (λ z. applicable z r.state.words) (sym is.1) ∙ can
 
-  pub enters_at : Absent rows s.words → length rows < q.room → (x : Estimate) → x ≡ q.est s.words → (rows' : List Row) → rows' ≡ rows ++ entered i r k s x ∷ [] → (j : ℕ) → j ≡ length rows → Generates q i r k rows (Entered j x) rows'
-  enters_at a lt x x-is rows' are j j-is =
-      let est : q.est (child q r k) ≡ x = ap q.est (sym is) ∙ sym x-is in
-      let same : child_row q i r k ≡ entered i r k s x = ap (λ w. entered i r k (record { words = w }) (q.est (child q r k))) (sym is) ∙ ap (entered i r k s) est in
-      let same_rows : rows ++ child_row q i r k ∷ [] ≡ rows' = ap (λ y. rows ++ y ∷ []) same ∙ sym are in
-      subst (λ n. Generates q i r k rows (Entered n x) rows') (sym j-is)
-      (subst (λ y. Generates q i r k rows (Entered (length rows) y) rows') est
-      (subst (λ z. Generates q i r k rows (Entered (length rows) (q.est (child q r k))) z) same_rows (enters can (subst (Absent rows) is a) lt)))
+    same : s.words ≡ child q r k
+    same = made ∙ ap (λ z. result z r.state.words) is.1
 
--- the first row of a cleared store
-pub enter_first : (room : ℕ) (rows : List Row) (r : Row) (x : Result ℕ Refusal) (rows' : List Row) → rows ≡ [] → 0 < room → Enter room rows r x rows' → rows' ≡ r ∷ []
-enter_first room rows r (Ok i) rows' e pos h = h.3 ∙ ap (λ z. z ++ r ∷ []) e
-enter_first room rows r (Err refusals.Known) rows' e pos h = absurd (omega (arith, h.0.1.0, ap length e))
-enter_first room rows r (Err refusals.Full) rows' e pos h = absurd (omega (arith, h.1, ap length e))
+    pub known_at : (j : ℕ) → At rows s.words j → Generates q i r k rows (Ok None) rows
+    known_at j at = known j fit (subst (λ x. At rows x j) same at)
 
-pub read_there : (rows : List Row) (i : ℕ) (old : Row) (b : Bool) (new : Row) → i < length rows → Read rows i old b new → new ≡ row rows i
-read_there rows i old true new lt h = h.1
-read_there rows i old false new lt h = absurd (omega arith)
+    pub full_at : (full : StoreFull) → Absent rows s.words → length rows ≡ q.room → Generates q i r k rows (Err full) rows
+    full_at full new e = no_place fit (subst (Absent rows) same new) e
+
+    pub enters_at : Absent rows s.words → length rows < q.room → (x : Estimate) → x ≡ q.est s.words → (rows' : List Row) → rows' ≡ rows ++ entered i r k s x ∷ [] → (j : ℕ) → j ≡ length rows
+        → Generates q i r k rows (Ok (Some (record { row = j; estimate = x }))) rows'
+    enters_at new lt x x-is rows' are j j-is =
+        let est : q.est (child q r k) ≡ x = ap q.est (sym same) ∙ sym x-is in
+        let one : child_row q i r k ≡ entered i r k s x = ap (λ w. entered i r k (record { words = w }) (q.est (child q r k))) (sym same) ∙ ap (entered i r k s) est in
+        let all : rows ++ child_row q i r k ∷ [] ≡ rows' = ap (λ y. rows ++ y ∷ []) one ∙ sym are in
+        subst (λ n. Generates q i r k rows (Ok (Some (record { row = n; estimate = x }))) rows') (sym j-is)
+        (subst (λ y. Generates q i r k rows (Ok (Some (record { row = length rows; estimate = y }))) rows') est
+        (subst (λ z. Generates q i r k rows (Ok (Some (record { row = length rows; estimate = q.est (child q r k) }))) z) all (enters fit (subst (Absent rows) same new) lt)))
+
+-- the error that `?` hands on
+pub handed_on : {X Y : Type 0} (r : Result X Y) (y : Y) → IsErrAnd r (λ e. e ≡ y) → r ≡ Err y
+handed_on (Ok x) y h = absurd h
+handed_on (Err e) y h = ap Err h

@@ -6,5 +6,3 @@ pub mod Lent
 pub mod Hills
 pub mod Right
 pub mod Decided
-pub mod Delivered
-pub mod Checked

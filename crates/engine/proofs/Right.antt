@@ -1,19 +1,18 @@
 -- A plan that a call answers is one, and where it answers none there is none.
-use Rattle.std.proofs.Common.{◌≡◌, ℕ, zero, suc, ◌+◌, ◌<◌, Bool, true, false, ◌⊎◌, List, [], ◌∷◌, ◌++◌, length, get_or, sym, refl, ap, ◌∙◌, subst, inl, inr, arith}
+use Rattle.std.proofs.Common.{◌≡◌, ℕ, zero, suc, ◌+◌, ◌<◌, Bool, true, false, ◌⊎◌, List, [], ◌∷◌, ◌++◌, length, get_or, vec_items, Some, None, Ok, sym, refl, ap, ◌∙◌, subst, inl, inr, arith}
 use native.Mathlib.Decide.{dec_lt}
 use Rattle.std.specs.List.Sorted.{IsPermutation}
 use Rattle.std.specs.List.{ContainsAt as Has}
 use Rattle.std.proofs.ByRecursion.{has_shuffled}
-use Rattle.std.specs.declared.option.Option.TheVariants as options
 use Rattle.facts.specs.Words.{subset}
 use Rattle.strips.specs.declared.action.Action.{Action}
+use Rattle.strips.specs.declared.problem.Task.{Task}
 use Rattle.strips.specs.Semantics.{State, applicable, result, Run, stop, step, IsPlan}
 use Rattle.strips.proofs.Runs.{run_more, runs_join, runs_stay}
 use Rattle.open_list.specs.declared.entry.Entry.{Entry}
 use Rattle.closed_list.specs.declared.row.Row.{Row}
 use Rattle.heuristic.specs.declared.estimate.Estimate.{Estimate}
 use Rattle.heuristic.specs.declared.estimate.Estimate.TheVariants.{Steps, Never}
-use Rattle.engine.specs.declared.model.Reply.TheVariants.{Going}
 use Rattle.strips.specs.Sound.{act}
 use Rattle.engine.specs.Reach.{Can}
 use Rattle.heuristic.specs.Laws.{Asked, Laws}
@@ -54,8 +53,8 @@ module _ (q : Setting) (s : State) (rows : List Row) (t : Tree q s rows) where
 -- the joined list of the hill phase runs to the state where it stands
 pub hill_runs : {q : Setting} {budget : ℕ} {s₀ : State} {p : List ℕ} {s : State} {h n : ℕ} → Hill q budget s₀ p s h n → Run q.acts s₀ p s
 hill_runs (hills.Hill.start e) = stop
-hill_runs {q} {s₀ = s₀} (on {p = p} {s = s} {j = j} {rows = rows} x pos l le) =
-    runs_join q.acts s₀ s (row rows j).state.words p (path rows j) (hill_runs x) (path_runs q s rows (leg_tree l) j (leg_better l).0)
+hill_runs {q} {s₀ = s₀} (on {p = p} {s = s} {b = b} {rows = rows} x pos l le) =
+    runs_join q.acts s₀ s (row rows b.row).state.words p (path rows b.row) (hill_runs x) (path_runs q s rows (leg_tree l) b.row (leg_better l).0)
 
 -- membership
 has_first : (e : Entry) (w : List Entry) → Has (e ∷ w) e
@@ -130,18 +129,18 @@ mid_push q i r k rows w w' keep no-goal new m =
 not_both : (b : Bool) → b ≡ true → b ≡ false → ⊥
 not_both b p n = let z : ◌≡◌ {A = ℕ} 0 1 = cc in omega arith
 
-one_mid : {q : Setting} {i : ℕ} {r : Row} {k : ℕ} {rows : List Row} {w : List Entry} {rows' : List Row} {w' : List Entry} → Considers q i r k rows w Going rows' w' → Mid q i r k rows w → Mid q i r (k + 1) rows' w'
+one_mid : {q : Setting} {i : ℕ} {r : Row} {k : ℕ} {rows : List Row} {w : List Entry} {rows' : List Row} {w' : List Entry} → Considers q i r k rows w (Ok None) rows' w' → Mid q i r k rows w → Mid q i r (k + 1) rows' w'
 one_mid {q} {i} {r} {k} {rows} {w} (passed (cannot no-fits)) m = mid_same q i r k rows w (λ can. absurd (not_both (fits q r k) can.1 no-fits)) m
 one_mid {q} {i} {r} {k} {rows} {w} (passed (known j h a)) m = mid_same q i r k rows w (λ can. (j, a)) m
-one_mid {q} {i} {r} {k} {rows} {w} (never g) m =
+one_mid {q} {i} {r} {k} {rows} {w} (never g n) m =
     let en = gen_entering g in
-    let e = en.est in
+    let e = en.est ∙ n in
     subst (λ z. Mid q i r (k + 1) z w) en.are
     (mid_push q i r k rows w w (λ y h. h) (λ z. let n : ◌≡◌ {A = ℕ} 0 1 = cc in omega arith) (inl e) m)
-one_mid {q} {i} {r} {k} {rows} {w} (waits {j = j} {h = n} {w' = w'} g p sh) m =
+one_mid {q} {i} {r} {k} {rows} {w} (waits {e = entered} {h = n} {w' = w'} g is p sh) m =
     let en = gen_entering g in
-    let e = en.est in
-    let y : Entry = entry j n (r.distance + 1) in
+    let e = en.est ∙ is in
+    let y : Entry = entry entered.row n (r.distance + 1) in
     subst (λ z. Mid q i r (k + 1) z w') en.are
     (mid_push q i r k rows w w' (λ x hx. has_shuffled (y ∷ w) w' x sh (has_more y x w hx)) (λ z. let nz : n ≡ 0 = cc in omega arith)
     (inr (inl (y, has_shuffled (y ∷ w) w' y sh (has_first y w), en.last))) m)
@@ -193,6 +192,10 @@ run_closed {q} {budget} {s} (turn {rows = rows} {rows' = rows'} {w = w} {w' = w'
     mid_closed q s t.e.row (row rows t.e.row) rows' w' (expand_kept t.expands (turn_kept t (run_sound r))).grown
     (expand_mid t.expands (taken_mid q rows w t.e t.rest t.taken (run_closed r)))
 
+-- a task is asked about, where the state and the goal lie within its facts
+pub asks : (task : Task) (s goal : State) → subset s task.facts.words ≡ true → subset goal task.facts.words ≡ true → Asked task.facts.words (vec_items task.actions) goal s
+asks task s goal state-in goal-in = record { few = omega (arith, task.wide); small = task.small; within = task.actions_within; goal_in = goal-in; state_in = state-in }
+
 -- a question stays one where actions lead
 asked_on : (facts : State) (acts : List Action) (goal s t : State) (p : List ℕ) → Asked facts acts goal s → Run acts s p t → Asked facts acts goal t
 asked_on facts acts goal s t p a r =
@@ -234,7 +237,7 @@ module _ (est : List Action → State → State → Estimate) (pref : List Actio
         let tree = (turn_sound t (run_sound r)).tree in
         ((row rows' j).state.words, path_runs (posed est pref acts goal room) s rows' tree j f.0, laws.zero facts acts goal (row rows' j).state.words (rows_asked rows' tree j f.0) f.1)
 
-    climbs_plans : (budget : ℕ) (p : List ℕ) (m : ℕ) → Climbs (posed est pref acts goal room) budget s (options.Some p) m → IsPlan acts s goal p
+    climbs_plans : (budget : ℕ) (p : List ℕ) (m : ℕ) → Climbs (posed est pref acts goal room) budget s (Some p) m → IsPlan acts s goal p
     climbs_plans budget p m (done {s = t} x) = (t, hill_runs x, laws.zero facts acts goal t (asked_on facts acts goal s t p ask (hill_runs x)) (hill_told x))
 
 pub answers_plans : AnswersPlans

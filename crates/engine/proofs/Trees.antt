@@ -1,10 +1,9 @@
 -- The rows of either phase hang together, by what one action keeps.
-use Rattle.std.proofs.Common.{◌≡◌, ℕ, ◌+◌, ◌<◌, ◌≤◌, ◌⊎◌, List, [], ◌∷◌, ◌++◌, length, sym, refl, ap, ◌∙◌, subst, inl, inr, arith}
+use Rattle.std.proofs.Common.{◌≡◌, ℕ, ◌+◌, ◌<◌, ◌≤◌, ◌⊎◌, List, [], ◌∷◌, ◌++◌, length, Ok, Some, Option, Result, sym, refl, ap, ◌∙◌, subst, inl, inr, arith}
 use Rattle.strips.specs.Semantics.{State, result}
 use Rattle.closed_list.specs.declared.row.Row.{Row}
-use Rattle.heuristic.specs.declared.estimate.Estimate.{Estimate}
-use Rattle.engine.specs.declared.model.Step.{Step}
-use Rattle.engine.specs.declared.model.Step.TheVariants.{Entered}
+use Rattle.engine.specs.declared.model.Entered.{Entered}
+use Rattle.engine.specs.declared.model.StoreFull.{StoreFull}
 use Rattle.strips.specs.Sound.{act}
 use Rattle.engine.specs.Reach.{Can}
 use Rattle.closed_list.specs.Rows.{row, At, Absent, Different}
@@ -87,40 +86,37 @@ grown_push q s i k r rows g can absent =
     }
 
 -- what one action of row i keeps
-pub gen_grown : {q : Setting} {s : State} {i : ℕ} {r : Row} {k : ℕ} {rows : List Row} {y : Step} {rows' : List Row}
+pub gen_grown : {q : Setting} {s : State} {i : ℕ} {r : Row} {k : ℕ} {rows : List Row} {y : Result (Option Entered) StoreFull} {rows' : List Row}
     → Generates q i r k rows y rows' → k < length q.acts → Grown q s i r rows → Grown q s i r rows'
 gen_grown (cannot no-fits) kl g = g
 gen_grown (known j h a) kl g = g
 gen_grown (no_place h a e) kl g = g
 gen_grown {q} {s} {i} {r} {k} {rows} (enters h a l) kl g = grown_push q s i k r rows g (kl, h) a
 
-pub gen_longer : {q : Setting} {i : ℕ} {r : Row} {k : ℕ} {rows : List Row} {y : Step} {rows' : List Row} → Generates q i r k rows y rows' → length rows ≤ length rows'
+pub gen_longer : {q : Setting} {i : ℕ} {r : Row} {k : ℕ} {rows : List Row} {y : Result (Option Entered) StoreFull} {rows' : List Row} → Generates q i r k rows y rows' → length rows ≤ length rows'
 gen_longer (cannot x) = omega arith
 gen_longer (known j h a) = omega arith
 gen_longer (no_place h a e) = omega arith
 gen_longer {q} {i} {r} {k} {rows} (enters h a l) = omega (arith, length_push rows (child_row q i r k))
 
 -- the row that an action entered
-pub record New (q : Setting) (x : Estimate) (j : ℕ) (rows rows' : List Row) : Type 0 where
-  pub there : j < length rows'
-  pub last : j ≡ length rows
+pub record New (q : Setting) (e : Entered) (rows rows' : List Row) : Type 0 where
+  pub there : e.row < length rows'
+  pub last : e.row ≡ length rows
   pub count : length rows' ≡ length rows + 1
-  pub less : j < q.room
-  pub est : q.est (row rows' j).state.words ≡ x
+  pub less : e.row < q.room
+  pub est : q.est (row rows' e.row).state.words ≡ e.estimate
 
-pub gen_new : {q : Setting} {i : ℕ} {r : Row} {k : ℕ} {rows : List Row} {j : ℕ} {x : Estimate} {rows' : List Row} → Generates q i r k rows (Entered j x) rows' → New q x j rows rows'
+pub gen_new : {q : Setting} {i : ℕ} {r : Row} {k : ℕ} {rows : List Row} {e : Entered} {rows' : List Row} → Generates q i r k rows (Ok (Some e)) rows' → New q e rows rows'
 gen_new {q} {i} {r} {k} {rows} (enters h a l) =
     let c : Row = child_row q i r k in
     record { there = omega (arith, length_push rows c); last = refl; count = length_push rows c; less = l; est = ap (λ z. q.est z.state.words) (row_new rows c) }
 
-pub gen_entered : {q : Setting} {i : ℕ} {r : Row} {k : ℕ} {rows : List Row} {j : ℕ} {x x' : Estimate} {rows' : List Row} → x ≡ x' → Generates q i r k rows (Entered j x) rows' → Generates q i r k rows (Entered j x') rows'
-gen_entered {q} {i} {r} {k} {rows} {j} {x} {x'} {rows'} e g = subst (λ z. Generates q i r k rows (Entered j z) rows') e g
-
 -- what an action that entered a row says
-pub record Entering (q : Setting) (i : ℕ) (r : Row) (k : ℕ) (rows : List Row) (j : ℕ) (x : Estimate) (rows' : List Row) : Type 0 where
-  pub last : j ≡ length rows
-  pub est : q.est (child q r k) ≡ x
+pub record Entering (q : Setting) (i : ℕ) (r : Row) (k : ℕ) (rows : List Row) (e : Entered) (rows' : List Row) : Type 0 where
+  pub last : e.row ≡ length rows
+  pub est : q.est (child q r k) ≡ e.estimate
   pub are : rows ++ child_row q i r k ∷ [] ≡ rows'
 
-pub gen_entering : {q : Setting} {i : ℕ} {r : Row} {k : ℕ} {rows : List Row} {j : ℕ} {x : Estimate} {rows' : List Row} → Generates q i r k rows (Entered j x) rows' → Entering q i r k rows j x rows'
+pub gen_entering : {q : Setting} {i : ℕ} {r : Row} {k : ℕ} {rows : List Row} {e : Entered} {rows' : List Row} → Generates q i r k rows (Ok (Some e)) rows' → Entering q i r k rows e rows'
 gen_entering (enters h a l) = record { last = refl; est = refl; are = refl }

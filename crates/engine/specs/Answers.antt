@@ -1,12 +1,11 @@
 -- What a plan call may answer, and what its answers say.
-use Rattle.std.specs.Prelude.{◌≡◌, ℕ, ◌+◌, ◌<◌, ◌≤◌, List, [], length, take, drop}
-use Rattle.std.specs.declared.option.Option.TheVariants as options
+use Rattle.std.specs.Prelude.{◌≡◌, ℕ, ◌+◌, ◌<◌, ◌≤◌, List, [], length, take, drop, Some, None, Ok, Err}
 use Rattle.strips.specs.declared.action.Action.{Action}
 use Rattle.strips.specs.Semantics.{State, IsPlan}
 use Rattle.closed_list.specs.declared.row.Row.{Row}
 use Rattle.open_list.specs.declared.entry.Entry.{Entry}
 use Rattle.heuristic.specs.declared.estimate.Estimate.TheVariants.{Steps, Never}
-use Rattle.engine.specs.declared.model.Reply.TheVariants.{Goal, Full}
+use Rattle.engine.specs.declared.model.StoreFull.{StoreFull}
 use Rattle.engine.specs.declared.model.Verdict.{Verdict}
 use Rattle.engine.specs.declared.model.Verdict.TheVariants as verdicts
 use Rattle.engine.specs.Paths.{path}
@@ -25,15 +24,15 @@ pub data Answer : Type 0 where
 pub data Searched (q : Setting) (budget : ℕ) (s : State) : Answer → ℕ → Type 0 where
   exhausted : {rows : List Row} {n : ℕ} → Explored q budget s rows [] n → Searched q budget s none n
   out_of_budget : {rows : List Row} {w : List Entry} {n : ℕ} → Explored q budget s rows w n → 0 < length w → n ≡ budget → Searched q budget s spent n
-  met_full : {rows rows' : List Row} {w w' : List Entry} {n : ℕ} → Explored q budget s rows w n → n < budget → Turn q rows w Full rows' w' → Searched q budget s full (n + 1)
-  found : {rows rows' : List Row} {w w' : List Entry} {n j : ℕ} → Explored q budget s rows w n → n < budget → Turn q rows w (Goal j) rows' w' → Searched q budget s (plan (path rows' j)) (n + 1)
+  met_full : {e : StoreFull} {rows rows' : List Row} {w w' : List Entry} {n : ℕ} → Explored q budget s rows w n → n < budget → Turn q rows w (Err e) rows' w' → Searched q budget s full (n + 1)
+  found : {rows rows' : List Row} {w w' : List Entry} {n j : ℕ} → Explored q budget s rows w n → n < budget → Turn q rows w (Ok (Some j)) rows' w' → Searched q budget s (plan (path rows' j)) (n + 1)
 
 -- the answers of a plan call from s, with its two counts of expansions
 pub data MayAnswer (q : Setting) (hill fallback : ℕ) (s : State) : Answer → ℕ → ℕ → Type 0 where
   at_goal : q.est s ≡ Steps 0 → MayAnswer q hill fallback s (plan []) 0 0
   hopeless : q.est s ≡ Never → MayAnswer q hill fallback s none 0 0
-  climbed : {h n : ℕ} {p : List ℕ} → q.est s ≡ Steps h → 0 < h → Climbs q hill s (options.Some p) n → MayAnswer q hill fallback s (plan p) n 0
-  fell_back : {h n m : ℕ} {a : Answer} → q.est s ≡ Steps h → 0 < h → Climbs q hill s options.None n → Searched q fallback s a m → MayAnswer q hill fallback s a n m
+  climbed : {h n : ℕ} {p : List ℕ} → q.est s ≡ Steps h → 0 < h → Climbs q hill s (Some p) n → MayAnswer q hill fallback s (plan p) n 0
+  fell_back : {h n m : ℕ} {a : Answer} → q.est s ≡ Steps h → 0 < h → Climbs q hill s None n → Searched q fallback s a m → MayAnswer q hill fallback s a n m
 
 -- a verdict with the list at the front of the buffer
 abbrev pub said : Verdict → List ℕ → Answer

@@ -1,5 +1,5 @@
 -- The checks of a plan call, in their order, and the number of each refusal.
-use Rattle.std.specs.Prelude.{ℕ, not, ◌&&◌, Option, ◌==◌, nat_le}
+use Rattle.std.specs.Prelude.{ℕ, ◌<◌, ◌≤◌, not, ◌&&◌, Option, ◌==◌, nat_le}
 use Rattle.facts.specs.Checks.{or_else, unless}
 use Rattle.facts.specs.Words.{subset}
 use Rattle.strips.specs.Semantics.{State}
@@ -14,6 +14,10 @@ refusal_number Budget = 9
 
 abbrev pub most_places : ℕ
 most_places = 4096
+
+-- as many places as a closed list may have
+abbrev pub HasPlaces : ℕ → Type 0
+HasPlaces n = (0 < n) × (n ≤ most_places)
 
 abbrev pub most_budget : ℕ
 most_budget = 1000000

@@ -1,6 +1,7 @@
 pub mod Reach
 pub mod Paths
 pub mod Generation
+pub mod Outcomes
 pub mod BestFirst
 pub mod HillClimbing
 pub mod Answers

@@ -1,174 +1,130 @@
 // The complete best-first phase.
-ghost use Rattle.std.specs.Prelude.{◌≡◌, ℕ, ◌+◌, ◌^◌, ◌<◌, ◌≤◌, length};
+ghost use Rattle.std.specs.Prelude.{◌≡◌, ℕ, ◌<◌, ◌≤◌, length};
 ghost use Rattle.heuristic.specs.declared.estimate.Estimate.TheVariants.{Steps};
-ghost use Rattle.engine.specs.Generation.{posed};
-ghost use Rattle.engine.specs.BestFirst.{Considers, Expands, Turn, Explored, Good};
-ghost use Rattle.engine.specs.Answers.{Searched, Sized, said};
 ghost use Rattle.closed_list.specs.Rows.{row as row_at};
+ghost use Rattle.engine.specs.Answers.{Searched, Sized, said};
+ghost use Rattle.engine.specs.BestFirst.{Considers, Expands, Explored};
+ghost use Rattle.engine.specs.Checks.{HasPlaces};
+ghost use Rattle.engine.specs.Generation.{IsAction, posed};
+ghost use Rattle.engine.specs.HillClimbing.{longest};
+ghost use Rattle.engine.specs.Outcomes.{verdict_of};
 
-use crate::model::{Reply, Step, Verdict};
-use crate::step::{blank, fresh, generate, write_path};
-use closed_list::{Row, Store};
-use facts::FactSet;
+use crate::expansions::Expansions;
+use crate::model::{Halt, Problem, Start, StoreFull};
+use crate::planner::Planner;
+use crate::taken::Taken;
+use closed_list::Store;
 use heuristic::{Estimate, Estimator};
 use open_list::{Entry, Frontier};
-use strips::Task;
+use strips::Action;
 
-// Treats action k in the state of `parent`, which is row i.
-fn consider<E: Estimator, F: Frontier, S: Store>(
-    estimator: &mut E,
-    frontier: &mut F,
-    store: &mut S,
-    task: &Task,
-    goal: &FactSet,
-    i: u16,
-    parent: Row,
-    k: u16,
-) -> Reply
-    requires exists { k < length task.now.actions.items }
-    requires near { parent.distance + 1 < 2 ^ 16 }
-    requires fits { length (F.Frontier.waiting frontier.old) < length (S.Store.rows store.old) }
-    requires holds { S.Store.room store.old ≤ F.Frontier.room frontier.old }
-    ensures change { Considers (posed E.Estimator.meaning E.Estimator.prefers task.now.actions.items goal.now.words (S.Store.room store.old)) i parent k (S.Store.rows store.old) (F.Frontier.waiting frontier.old) result (S.Store.rows store.new) (F.Frontier.waiting frontier.new) }
-    ensures store_room { S.Store.room store.new ≡ S.Store.room store.old }
-    ensures frontier_room { F.Frontier.room frontier.new ≡ F.Frontier.room frontier.old }
-{
-    match generate(estimator, store, task, goal, i, parent, k) {
-        Step::Passed => Reply::Going,
-        Step::Full => Reply::Full,
-        Step::Entered(j, x) => match x {
-            Estimate::Never => Reply::Going,
-            Estimate::Steps(h) => {
-                if h == 0 {
-                    return Reply::Goal(j);
-                }
-                let _ = frontier.put(Entry {
-                    row: j,
-                    estimate: h,
-                    distance: parent.distance + 1,
-                });
-                Reply::Going
+impl<E: Estimator, F: Frontier, S: Store> Planner<E, F, S> {
+    // Treats action k in the state of the row that is taken up: answers the row that has all goals, where it enters that.
+    fn consider(
+        &mut self,
+        problem: Problem<'_>,
+        parent: Taken,
+        k: u16,
+        action: &Action,
+    ) -> Result<Option<u16>, StoreFull>
+        requires is { IsAction problem.task.now.actions.items k action.now }
+        requires fits { length (F.waiting self.old.frontier) < length (S.rows self.old.searcher.store) }
+        requires holds { S.room self.old.searcher.store ≤ F.room self.old.frontier }
+        ensures change { Considers (posed E.meaning E.prefers problem.entry.task.now.actions.items problem.entry.goal.now.words (S.room self.old.searcher.store)) parent.number parent.row k (S.rows self.old.searcher.store) (F.waiting self.old.frontier) result (S.rows self.new.searcher.store) (F.waiting self.new.frontier) }
+        ensures store_room { S.room self.new.searcher.store ≡ S.room self.old.searcher.store }
+        ensures frontier_room { F.room self.new.frontier ≡ F.room self.old.frontier }
+    {
+        let Some(entered) = self.searcher.generate(problem, parent, k, action)? else {
+            return Ok(None);
+        };
+        let Estimate::Steps(estimate) = entered.estimate else {
+            return Ok(None);
+        };
+        if estimate == 0 {
+            return Ok(Some(entered.row));
+        }
+        let _ = self.frontier.put(Entry {
+            row: entered.row,
+            estimate,
+            distance: parent.row.distance + 1,
+        });
+        Ok(None)
+    }
+
+    // Expands the row that is taken up with all applicable actions in rising number.
+    fn expand(&mut self, problem: Problem<'_>, parent: Taken) -> Result<Option<u16>, StoreFull>
+        requires fits { length (F.waiting self.old.frontier) < length (S.rows self.old.searcher.store) }
+        requires holds { S.room self.old.searcher.store ≤ F.room self.old.frontier }
+        ensures change { Expands (posed E.meaning E.prefers problem.entry.task.now.actions.items problem.entry.goal.now.words (S.room self.old.searcher.store)) parent.number parent.row (S.rows self.old.searcher.store) (F.waiting self.old.frontier) result (S.rows self.new.searcher.store) (F.waiting self.new.frontier) }
+        ensures store_room { S.room self.new.searcher.store ≡ S.room self.old.searcher.store }
+        ensures frontier_room { F.room self.new.frontier ≡ F.room self.old.frontier }
+    {
+        for (k, action) in problem.task.actions().iter().enumerate() {
+            if let Some(reached) = self.consider(problem, parent, k as u16, action)? {
+                return Ok(Some(reached));
             }
-        },
+        }
+        Ok(None)
     }
-}
 
-// Expands row i, whose record is `parent`, with all applicable actions in rising number.
-fn expand<E: Estimator, F: Frontier, S: Store>(
-    estimator: &mut E,
-    frontier: &mut F,
-    store: &mut S,
-    task: &Task,
-    goal: &FactSet,
-    i: u16,
-    parent: Row,
-) -> Reply
-    requires near { parent.distance + 1 < 2 ^ 16 }
-    requires fits { length (F.Frontier.waiting frontier.old) < length (S.Store.rows store.old) }
-    requires holds { S.Store.room store.old ≤ F.Frontier.room frontier.old }
-    ensures change { Expands (posed E.Estimator.meaning E.Estimator.prefers task.now.actions.items goal.now.words (S.Store.room store.old)) i parent (S.Store.rows store.old) (F.Frontier.waiting frontier.old) result (S.Store.rows store.new) (F.Frontier.waiting frontier.new) }
-    ensures store_room { S.Store.room store.new ≡ S.Store.room store.old }
-    ensures frontier_room { F.Frontier.room frontier.new ≡ F.Frontier.room frontier.old }
-{
-    for k in 0..task.action_count() {
-        match consider(estimator, frontier, store, task, goal, i, parent, k as u16) {
-            Reply::Going => {}
-            Reply::Goal(j) => return Reply::Goal(j),
-            Reply::Full => return Reply::Full,
+    // Expands rows until an answer is found.
+    fn run(
+        &mut self,
+        problem: Problem<'_>,
+        expansions: &mut Expansions,
+        out: &mut [u16],
+    ) -> Result<Option<u16>, Halt>
+        requires begun { Explored (posed E.meaning E.prefers problem.task.now.actions.items problem.goal.now.words (S.room self.old.searcher.store)) expansions.old.budget (row_at (S.rows self.old.searcher.store) 0).state.words (S.rows self.old.searcher.store) (F.waiting self.old.frontier) expansions.old.count }
+        requires places { HasPlaces (S.room self.old.searcher.store) }
+        requires holds { S.room self.old.searcher.store ≤ F.room self.old.frontier }
+        requires fits { longest ≤ length out.old }
+        ensures answer { Searched (posed E.meaning E.prefers problem.entry.task.now.actions.items problem.entry.goal.now.words (S.room self.old.searcher.store)) expansions.old.budget (row_at (S.rows self.old.searcher.store) 0).state.words (said (verdict_of result) out.new) expansions.new.count }
+        ensures sized { Sized (verdict_of result) }
+        ensures store_room { S.room self.new.searcher.store ≡ S.room self.old.searcher.store }
+        ensures frontier_room { F.room self.new.frontier ≡ F.room self.old.frontier }
+    {
+        while let Some(entry) = self.frontier.take() {
+            expansions.count_one()?;
+            let Some(row) = self.searcher.store.row(entry.row) else {
+                unreachable!();
+            };
+            let parent = Taken {
+                number: entry.row,
+                row,
+            };
+            if let Some(reached) = self.expand(problem, parent)? {
+                return Ok(Some(self.searcher.write_path(reached, out)));
+            }
         }
+        Ok(None)
     }
-    Reply::Going
-}
 
-// Takes one waiting entry and expands its row.
-fn turn<E: Estimator, F: Frontier, S: Store>(
-    estimator: &mut E,
-    frontier: &mut F,
-    store: &mut S,
-    task: &Task,
-    goal: &FactSet,
-) -> Reply
-    requires good { Good (S.Store.rows store.old) (F.Frontier.waiting frontier.old) }
-    requires some { 0 < length (F.Frontier.waiting frontier.old) }
-    requires holds { S.Store.room store.old ≤ F.Frontier.room frontier.old }
-    requires numbered { S.Store.room store.old < 2 ^ 16 }
-    ensures change { Turn (posed E.Estimator.meaning E.Estimator.prefers task.now.actions.items goal.now.words (S.Store.room store.old)) (S.Store.rows store.old) (F.Frontier.waiting frontier.old) result (S.Store.rows store.new) (F.Frontier.waiting frontier.new) }
-    ensures store_room { S.Store.room store.new ≡ S.Store.room store.old }
-    ensures frontier_room { F.Frontier.room frontier.new ≡ F.Frontier.room frontier.old }
-{
-    let Some(entry) = frontier.take() else {
-        return Reply::Full;
-    };
-    let mut parent = blank();
-    let _ = store.read(entry.row, &mut parent);
-    expand(estimator, frontier, store, task, goal, entry.row, parent)
-}
-
-// Expands rows until an answer is found.
-fn run<E: Estimator, F: Frontier, S: Store>(
-    estimator: &mut E,
-    frontier: &mut F,
-    store: &mut S,
-    task: &Task,
-    goal: &FactSet,
-    budget: u32,
-    out: &mut [u16],
-) -> (Verdict, u32)
-    requires begun { Explored (posed E.Estimator.meaning E.Estimator.prefers task.now.actions.items goal.now.words (S.Store.room store.old)) budget (row_at (S.Store.rows store.old) 0).state.words (S.Store.rows store.old) (F.Frontier.waiting frontier.old) 0 }
-    requires holds { S.Store.room store.old ≤ F.Frontier.room frontier.old }
-    requires numbered { S.Store.room store.old ≤ 4096 }
-    requires fits { 4095 ≤ length out.old }
-    ensures answer { Searched (posed E.Estimator.meaning E.Estimator.prefers task.now.actions.items goal.now.words (S.Store.room store.old)) budget (row_at (S.Store.rows store.old) 0).state.words (said result.0 out.new) result.1 }
-    ensures sized { Sized result.0 }
-    ensures store_room { S.Store.room store.new ≡ S.Store.room store.old }
-    ensures frontier_room { F.Frontier.room frontier.new ≡ F.Frontier.room frontier.old }
-{
-    let mut n = 0u32;
-    'turns: loop {
-        if frontier.count() == 0 {
-            return (Verdict::None, n);
-        }
-        if n == budget {
-            return (Verdict::Spent, n);
-        }
-        n += 1;
-        match turn(estimator, frontier, store, task, goal) {
-            Reply::Going => {}
-            Reply::Goal(j) => return (Verdict::Plan(write_path(store, j, out)), n),
-            Reply::Full => return (Verdict::Full, n),
-        }
+    // Searches from the state, whose estimate is above 0: answers the length of the plan at the front of `out`, or that there is none.
+    pub(crate) fn fallback(
+        &mut self,
+        problem: Problem<'_>,
+        start: Start,
+        expansions: &mut Expansions,
+        out: &mut [u16],
+    ) -> Result<Option<u16>, Halt>
+        requires places { HasPlaces (S.room self.old.searcher.store) }
+        requires holds { S.room self.old.searcher.store ≤ F.room self.old.frontier }
+        requires fits { longest ≤ length out.old }
+        requires told { E.meaning problem.task.now.actions.items problem.goal.now.words start.state.words ≡ Steps start.steps }
+        requires above { 0 < start.steps }
+        requires begun { expansions.old.count ≡ 0 }
+        ensures answer { Searched (posed E.meaning E.prefers problem.entry.task.now.actions.items problem.entry.goal.now.words (S.room self.old.searcher.store)) expansions.old.budget start.state.words (said (verdict_of result) out.new) expansions.new.count }
+        ensures sized { Sized (verdict_of result) }
+        ensures store_room { S.room self.new.searcher.store ≡ S.room self.old.searcher.store }
+        ensures frontier_room { F.room self.new.frontier ≡ F.room self.old.frontier }
+    {
+        self.searcher.fresh(start);
+        self.frontier.clear();
+        let _ = self.frontier.put(Entry {
+            row: 0,
+            estimate: start.steps,
+            distance: 0,
+        });
+        self.run(problem, expansions, out)
     }
-}
-
-// Searches from `start`, whose estimate is h, above 0.
-pub(crate) fn fallback<E: Estimator, F: Frontier, S: Store>(
-    estimator: &mut E,
-    frontier: &mut F,
-    store: &mut S,
-    task: &Task,
-    goal: &FactSet,
-    start: FactSet,
-    h: u16,
-    budget: u32,
-    out: &mut [u16],
-) -> (Verdict, u32)
-    requires some { 0 < S.Store.room store.old }
-    requires holds { S.Store.room store.old ≤ F.Frontier.room frontier.old }
-    requires numbered { S.Store.room store.old ≤ 4096 }
-    requires fits { 4095 ≤ length out.old }
-    requires told { E.Estimator.meaning task.now.actions.items goal.now.words start.words ≡ Steps h }
-    requires above { 0 < h }
-    ensures answer { Searched (posed E.Estimator.meaning E.Estimator.prefers task.now.actions.items goal.now.words (S.Store.room store.old)) budget start.words (said result.0 out.new) result.1 }
-    ensures sized { Sized result.0 }
-    ensures store_room { S.Store.room store.new ≡ S.Store.room store.old }
-    ensures frontier_room { F.Frontier.room frontier.new ≡ F.Frontier.room frontier.old }
-{
-    fresh(store, start, Estimate::Steps(h));
-    frontier.clear();
-    let _ = frontier.put(Entry {
-        row: 0,
-        estimate: h,
-        distance: 0,
-    });
-    run(estimator, frontier, store, task, goal, budget, out)
 }

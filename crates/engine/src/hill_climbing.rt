@@ -1,245 +1,204 @@
 // The hill phase.
-ghost use Rattle.std.specs.Prelude.{◌≡◌, ℕ, ◌+◌, ◌^◌, ◌<◌, ◌≤◌, Bool, true, false, ◌||◌, List, [], ◌∷◌, length, IfSome};
-ghost use Rattle.facts.specs.Words.{has};
+ghost use Rattle.std.specs.Prelude.{◌≡◌, ℕ, ◌<◌, ◌≤◌, true, [], ◌∷◌, length, IfSome};
 ghost use Rattle.heuristic.specs.declared.estimate.Estimate.TheVariants.{Steps};
-ghost use Rattle.engine.specs.Generation.{posed, root};
-ghost use Rattle.engine.specs.HillClimbing.{Climbs, Ended, Leg, Tops, Tried, listed, longest};
 ghost use Rattle.closed_list.specs.Rows.{row as row_at};
+ghost use Rattle.engine.specs.Checks.{HasPlaces};
+ghost use Rattle.engine.specs.Generation.{IsAction, posed, root};
+ghost use Rattle.engine.specs.HillClimbing.{Climbs, Ended, Leg, Tops, Tried, is_tried, listed, longest, wanted};
 
-use crate::model::{End, Rise, Step};
-use crate::step::{blank, fresh, generate, write_path};
-use closed_list::{Row, Store};
+use crate::expansions::Expansions;
+use crate::model::{Better, Halt, Problem, Start, StoreFull, Tries};
+use crate::searcher::Searcher;
+use crate::taken::Taken;
+use closed_list::Store;
 use facts::{ActionSet, FactSet};
 use heuristic::{Estimate, Estimator};
-use strips::Task;
+use strips::Action;
 
 // the most actions of a plan
 pub const LONGEST: usize = 4095;
 
-// The preferred actions of the state, if they are asked for.
-fn choose<E: Estimator>(
-    estimator: &mut E,
-    task: &Task,
-    goal: &FactSet,
-    all: bool,
-    state: &FactSet,
-) -> ActionSet
-    ensures { (k : ℕ) → all ≡ false → has result.words k ≡ E.Estimator.prefers task.now.actions.items goal.now.words state.now.words k }
+// Whether action k is among those that are tried; without a set all are.
+fn is_wanted(liked: &Option<ActionSet>, k: u16) -> bool
+    ensures { result ≡ wanted liked.now k }
 {
-    let mut preferred = ActionSet::empty();
-    if !all {
-        estimator.estimate(task, goal, state, &mut preferred);
+    match liked {
+        Some(set) => set.contains(k),
+        None => true,
     }
-    preferred
 }
 
-// Whether action k is tried.
-fn wanted(all: bool, liked: &ActionSet, k: u16) -> bool
-    ensures { result ≡ (all || has liked.now.words k) }
-{
-    all || liked.contains(k)
-}
-
-// Tries action k in the state of `parent`, which is row i.
-fn attempt<E: Estimator, S: Store>(
-    estimator: &mut E,
-    store: &mut S,
-    task: &Task,
-    goal: &FactSet,
-    all: bool,
-    liked: &ActionSet,
-    bound: u16,
-    i: u16,
-    parent: Row,
-    k: u16,
-) -> Rise
-    requires right { all ≡ false → has liked.now.words k ≡ E.Estimator.prefers task.now.actions.items goal.now.words parent.state.words k }
-    requires exists { k < length task.now.actions.items }
-    requires near { parent.distance + 1 < 2 ^ 16 }
-    ensures change { Tried (posed E.Estimator.meaning E.Estimator.prefers task.now.actions.items goal.now.words (S.Store.room store.old)) all bound i parent k (S.Store.rows store.old) result (S.Store.rows store.new) }
-    ensures same { S.Store.room store.new ≡ S.Store.room store.old }
-{
-    if !wanted(all, liked, k) {
-        return Rise::Going;
-    }
-    match generate(estimator, store, task, goal, i, parent, k) {
-        Step::Passed => Rise::Going,
-        Step::Full => Rise::Full,
-        Step::Entered(j, x) => match x {
-            Estimate::Never => Rise::Going,
-            Estimate::Steps(h) => {
-                if h < bound {
-                    Rise::Better(j, h)
-                } else {
-                    Rise::Going
-                }
+impl<E: Estimator, S: Store> Searcher<E, S> {
+    // The actions that are tried in the state; none where all are.
+    fn choose(&mut self, problem: Problem<'_>, tries: Tries, state: &FactSet) -> Option<ActionSet>
+        ensures chosen { (k : ℕ) → wanted result k ≡ is_tried (E.prefers problem.entry.task.now.actions.items problem.entry.goal.now.words) tries state.now.words k }
+        ensures same { self.new.store ≡ self.old.store }
+    {
+        match tries {
+            Tries::All => None,
+            Tries::Preferred => {
+                let mut preferred = ActionSet::empty();
+                self.estimator
+                    .estimate(problem.task, problem.goal, state, &mut preferred);
+                Some(preferred)
             }
-        },
-    }
-}
-
-// Expands row i, whose record is `parent`, up to a result that is better than `bound`.
-fn climb<E: Estimator, S: Store>(
-    estimator: &mut E,
-    store: &mut S,
-    task: &Task,
-    goal: &FactSet,
-    all: bool,
-    bound: u16,
-    i: u16,
-    parent: Row,
-) -> Rise
-    requires near { parent.distance + 1 < 2 ^ 16 }
-    ensures change { Tops (posed E.Estimator.meaning E.Estimator.prefers task.now.actions.items goal.now.words (S.Store.room store.old)) all bound i parent (S.Store.rows store.old) result (S.Store.rows store.new) }
-    ensures same { S.Store.room store.new ≡ S.Store.room store.old }
-{
-    let liked = choose(estimator, task, goal, all, &parent.state);
-    for k in 0..task.action_count() {
-        match attempt(
-            estimator, store, task, goal, all, &liked, bound, i, parent, k as u16,
-        ) {
-            Rise::Going => {}
-            Rise::Full => return Rise::Full,
-            Rise::Better(j, h) => return Rise::Better(j, h),
         }
     }
-    Rise::Going
-}
 
-// Takes up the rows in number order until one is better than `bound`, after `done` expansions.
-fn take_up<E: Estimator, S: Store>(
-    estimator: &mut E,
-    store: &mut S,
-    task: &Task,
-    goal: &FactSet,
-    all: bool,
-    bound: u16,
-    budget: u32,
-    done: u32,
-) -> (End, u32)
-    requires numbered { S.Store.room store.old ≤ 4096 }
-    requires within { done ≤ budget }
-    requires begun { S.Store.rows store.old ≡ root (posed E.Estimator.meaning E.Estimator.prefers task.now.actions.items goal.now.words (S.Store.room store.old)) (row_at (S.Store.rows store.old) 0).state.words ∷ [] }
-    ensures ended { Ended (posed E.Estimator.meaning E.Estimator.prefers task.now.actions.items goal.now.words (S.Store.room store.old)) all bound budget done (row_at (S.Store.rows store.old) 0).state.words result.0 (S.Store.rows store.new) result.1 }
-    ensures same { S.Store.room store.new ≡ S.Store.room store.old }
-{
-    let mut n = done;
-    let mut i = 0u16;
-    'rows: loop {
-        let mut parent = blank();
-        if !store.read(i, &mut parent) {
-            return (End::RanOut, n);
-        }
-        if let Estimate::Never = parent.estimate {
-            i += 1;
-            continue;
-        }
-        if n == budget {
-            return (End::Spent, n);
-        }
-        n += 1;
-        match climb(estimator, store, task, goal, all, bound, i, parent) {
-            Rise::Going => {}
-            Rise::Better(j, h) => return (End::Better(j, h), n),
-            Rise::Full => return (End::Full, n),
-        }
-        i += 1;
-    }
-}
-
-// One stretch from a state whose estimate is `bound`.
-fn stretch<E: Estimator, S: Store>(
-    estimator: &mut E,
-    store: &mut S,
-    task: &Task,
-    goal: &FactSet,
-    all: bool,
-    state: FactSet,
-    bound: u16,
-    budget: u32,
-    done: u32,
-) -> (End, u32)
-    requires some { 0 < S.Store.room store.old }
-    requires numbered { S.Store.room store.old ≤ 4096 }
-    requires within { done ≤ budget }
-    requires told { E.Estimator.meaning task.now.actions.items goal.now.words state.words ≡ Steps bound }
-    ensures ended { Ended (posed E.Estimator.meaning E.Estimator.prefers task.now.actions.items goal.now.words (S.Store.room store.old)) all bound budget done state.words result.0 (S.Store.rows store.new) result.1 }
-    ensures same { S.Store.room store.new ≡ S.Store.room store.old }
-{
-    fresh(store, state, Estimate::Steps(bound));
-    take_up(estimator, store, task, goal, all, bound, budget, done)
-}
-
-// A stretch with the preferred actions and, where its rows run out, once more with all.
-fn leg<E: Estimator, S: Store>(
-    estimator: &mut E,
-    store: &mut S,
-    task: &Task,
-    goal: &FactSet,
-    state: FactSet,
-    bound: u16,
-    budget: u32,
-    done: u32,
-) -> (End, u32)
-    requires some { 0 < S.Store.room store.old }
-    requires numbered { S.Store.room store.old ≤ 4096 }
-    requires within { done ≤ budget }
-    requires told { E.Estimator.meaning task.now.actions.items goal.now.words state.words ≡ Steps bound }
-    ensures leg { Leg (posed E.Estimator.meaning E.Estimator.prefers task.now.actions.items goal.now.words (S.Store.room store.old)) bound budget done state.words result.0 (S.Store.rows store.new) result.1 }
-    ensures same { S.Store.room store.new ≡ S.Store.room store.old }
-{
-    let (end, n) = stretch(
-        estimator, store, task, goal, false, state, bound, budget, done,
-    );
-    match end {
-        End::RanOut => stretch(estimator, store, task, goal, true, state, bound, budget, n),
-        End::Spent => (End::Spent, n),
-        End::Full => (End::Full, n),
-        End::Better(j, h) => (End::Better(j, h), n),
-    }
-}
-
-// Climbs from `start`, whose estimate is `first`, to a state with all goals. The joined list stands at the front of `out`.
-pub(crate) fn hill<E: Estimator, S: Store>(
-    estimator: &mut E,
-    store: &mut S,
-    task: &Task,
-    goal: &FactSet,
-    start: FactSet,
-    first: u16,
-    budget: u32,
-    out: &mut [u16],
-) -> (Option<u16>, u32)
-    requires some { 0 < S.Store.room store.old }
-    requires numbered { S.Store.room store.old ≤ 4096 }
-    requires fits { length out.old ≡ 4095 }
-    requires told { E.Estimator.meaning task.now.actions.items goal.now.words start.words ≡ Steps first }
-    requires above { 0 < first }
-    ensures climbs { Climbs (posed E.Estimator.meaning E.Estimator.prefers task.now.actions.items goal.now.words (S.Store.room store.old)) budget start.words (listed result.0 out.new) result.1 }
-    ensures sized { IfSome result.0 (λ n. n ≤ longest) }
-    ensures same { S.Store.room store.new ≡ S.Store.room store.old }
-{
-    let mut state = start;
-    let mut bound = first;
-    let mut len = 0u16;
-    let mut n = 0u32;
-    'stretches: loop {
-        let (end, count) = leg(estimator, store, task, goal, state, bound, budget, n);
-        n = count;
-        let End::Better(j, h) = end else {
-            return (None, n);
+    // Tries action k in the state of the row that is taken up.
+    fn attempt(
+        &mut self,
+        problem: Problem<'_>,
+        bound: u16,
+        parent: Taken,
+        k: u16,
+        action: &Action,
+    ) -> Result<Option<Better>, StoreFull>
+        requires is { IsAction problem.task.now.actions.items k action.now }
+        ensures change { (tries : _) → is_tried (E.prefers problem.entry.task.now.actions.items problem.entry.goal.now.words) tries parent.row.state.words k ≡ true → Tried (posed E.meaning E.prefers problem.entry.task.now.actions.items problem.entry.goal.now.words (S.room self.old.store)) tries bound parent.number parent.row k (S.rows self.old.store) result (S.rows self.new.store) }
+        ensures same { S.room self.new.store ≡ S.room self.old.store }
+    {
+        let Some(entered) = self.generate(problem, parent, k, action)? else {
+            return Ok(None);
         };
-        let mut at = blank();
-        let _ = store.read(j, &mut at);
-        if at.distance > LONGEST as u16 - len {
-            return (None, n);
+        match entered.estimate {
+            Estimate::Steps(steps) if steps < bound => Ok(Some(Better {
+                row: entered.row,
+                steps,
+            })),
+            _ => Ok(None),
         }
-        let added = write_path(store, j, &mut out[len as usize..]);
-        len += added;
-        if h == 0 {
-            return (Some(len), n);
+    }
+
+    // Expands the row that is taken up, as far as a result that is better than `bound`.
+    fn climb(
+        &mut self,
+        problem: Problem<'_>,
+        tries: Tries,
+        bound: u16,
+        parent: Taken,
+    ) -> Result<Option<Better>, StoreFull>
+        ensures change { Tops (posed E.meaning E.prefers problem.entry.task.now.actions.items problem.entry.goal.now.words (S.room self.old.store)) tries bound parent.number parent.row (S.rows self.old.store) result (S.rows self.new.store) }
+        ensures same { S.room self.new.store ≡ S.room self.old.store }
+    {
+        let liked = self.choose(problem, tries, &parent.row.state);
+        for (k, action) in problem.task.actions().iter().enumerate() {
+            if !is_wanted(&liked, k as u16) {
+                continue;
+            }
+            if let Some(better) = self.attempt(problem, bound, parent, k as u16, action)? {
+                return Ok(Some(better));
+            }
         }
-        state = at.state;
-        bound = h;
+        Ok(None)
+    }
+
+    // Takes up the rows in the order of their numbers, as far as one that leads to a better row.
+    fn take_up(
+        &mut self,
+        problem: Problem<'_>,
+        tries: Tries,
+        bound: u16,
+        expansions: &mut Expansions,
+    ) -> Result<Option<Better>, Halt>
+        requires places { HasPlaces (S.room self.old.store) }
+        requires begun { S.rows self.old.store ≡ root (posed E.meaning E.prefers problem.task.now.actions.items problem.goal.now.words (S.room self.old.store)) (row_at (S.rows self.old.store) 0).state.words ∷ [] }
+        ensures ended { Ended (posed E.meaning E.prefers problem.entry.task.now.actions.items problem.entry.goal.now.words (S.room self.old.store)) tries bound expansions.old.budget expansions.old.count (row_at (S.rows self.old.store) 0).state.words result (S.rows self.new.store) expansions.new.count }
+        ensures same { S.room self.new.store ≡ S.room self.old.store }
+        ensures budget { expansions.new.budget ≡ expansions.old.budget }
+    {
+        for number in 0..self.store.places() as u16 {
+            let Some(row) = self.store.row(number) else {
+                return Ok(None);
+            };
+            if let Estimate::Never = row.estimate {
+                continue;
+            }
+            expansions.count_one()?;
+            if let Some(better) = self.climb(problem, tries, bound, Taken { number, row })? {
+                return Ok(Some(better));
+            }
+        }
+        Ok(None)
+    }
+
+    // One stretch from the state.
+    fn stretch(
+        &mut self,
+        problem: Problem<'_>,
+        tries: Tries,
+        start: Start,
+        expansions: &mut Expansions,
+    ) -> Result<Option<Better>, Halt>
+        requires places { HasPlaces (S.room self.old.store) }
+        requires told { E.meaning problem.task.now.actions.items problem.goal.now.words start.state.words ≡ Steps start.steps }
+        ensures ended { Ended (posed E.meaning E.prefers problem.entry.task.now.actions.items problem.entry.goal.now.words (S.room self.old.store)) tries start.steps expansions.old.budget expansions.old.count start.state.words result (S.rows self.new.store) expansions.new.count }
+        ensures same { S.room self.new.store ≡ S.room self.old.store }
+        ensures budget { expansions.new.budget ≡ expansions.old.budget }
+    {
+        self.fresh(start);
+        self.take_up(problem, tries, start.steps, expansions)
+    }
+
+    // A stretch with the preferred actions and, where its rows run out, once more with all.
+    fn leg(
+        &mut self,
+        problem: Problem<'_>,
+        start: Start,
+        expansions: &mut Expansions,
+    ) -> Result<Option<Better>, Halt>
+        requires places { HasPlaces (S.room self.old.store) }
+        requires told { E.meaning problem.task.now.actions.items problem.goal.now.words start.state.words ≡ Steps start.steps }
+        ensures leg { Leg (posed E.meaning E.prefers problem.entry.task.now.actions.items problem.entry.goal.now.words (S.room self.old.store)) start.steps expansions.old.budget expansions.old.count start.state.words result (S.rows self.new.store) expansions.new.count }
+        ensures same { S.room self.new.store ≡ S.room self.old.store }
+        ensures budget { expansions.new.budget ≡ expansions.old.budget }
+    {
+        if let Some(better) = self.stretch(problem, Tries::Preferred, start, expansions)? {
+            return Ok(Some(better));
+        }
+        self.stretch(problem, Tries::All, start, expansions)
+    }
+
+    // Climbs from the state to one with all goals. The joined list stands at the front of `out`.
+    pub(crate) fn hill(
+        &mut self,
+        problem: Problem<'_>,
+        start: Start,
+        expansions: &mut Expansions,
+        out: &mut [u16],
+    ) -> Option<u16>
+        requires places { HasPlaces (S.room self.old.store) }
+        requires fits { length out.old ≡ longest }
+        requires told { E.meaning problem.task.now.actions.items problem.goal.now.words start.state.words ≡ Steps start.steps }
+        requires above { 0 < start.steps }
+        requires begun { expansions.old.count ≡ 0 }
+        ensures climbs { Climbs (posed E.meaning E.prefers problem.entry.task.now.actions.items problem.entry.goal.now.words (S.room self.old.store)) expansions.old.budget start.state.words (listed result out.new) expansions.new.count }
+        ensures sized { IfSome result (λ n. n ≤ longest) }
+        ensures same { S.room self.new.store ≡ S.room self.old.store }
+    {
+        let mut from = start;
+        let mut len = 0u16;
+        'stretches: loop {
+            let Ok(end) = self.leg(problem, from, expansions) else {
+                return None;
+            };
+            let Some(better) = end else {
+                return None;
+            };
+            let Some(at) = self.store.row(better.row) else {
+                unreachable!();
+            };
+            if at.distance > LONGEST as u16 - len {
+                return None;
+            }
+            len += self.write_path(better.row, &mut out[len as usize..]);
+            if better.steps == 0 {
+                return Some(len);
+            }
+            from = Start {
+                state: at.state,
+                steps: better.steps,
+            };
+        }
     }
 }

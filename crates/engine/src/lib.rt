@@ -3,12 +3,17 @@
 
 mod best_first;
 mod claims;
+mod expansions;
 mod hill_climbing;
+mod limits;
 mod model;
 mod planner;
-mod step;
+mod searcher;
+mod taken;
 
 pub use claims::answers_are_lawful;
 pub use hill_climbing::LONGEST;
+pub use limits::{Budgets, Limits, check_limits};
 pub use model::{Refusal, Verdict};
-pub use planner::{check_limits, plan};
+pub use planner::Planner;
+pub use searcher::Searcher;

@@ -1,43 +1,70 @@
 // What becomes of an action, a row, a stretch and a plan call.
 ghost use Rattle.std.specs.Prelude.{◌≡◌};
 ghost use Rattle.engine.specs.Checks.{refusal_number};
+ghost use Rattle.engine.specs.Outcomes.{verdict_of};
+ghost use Rattle.engine.specs.declared.model.Halt.TheVariants.{Full as HaltFull};
 
+use facts::FactSet;
 use heuristic::Estimate;
+use strips::Task;
 
-// One action of a row: passed over, met a full closed list, or entered a row with its estimate.
+// A task with the goals that are asked for.
 #[derive(Clone, Copy)]
-pub(crate) enum Step {
-    Passed,
-    Full,
-    Entered(u16, Estimate),
+pub(crate) struct Problem<'t> {
+    pub task: &'t Task,
+    pub goal: &'t FactSet,
 }
 
-// One action, or all, of a row in the best-first phase.
+// A state with its estimate.
 #[derive(Clone, Copy)]
-pub(crate) enum Reply {
-    Going,
-    Goal(u16),
-    Full,
+pub(crate) struct Start {
+    pub state: FactSet,
+    pub steps: u16,
 }
 
-// One action, or all, of a row in a stretch: the better row with its estimate.
+// Which actions of a row a stretch tries.
 #[derive(Clone, Copy)]
-pub(crate) enum Rise {
-    Going,
-    Better(u16, u16),
-    Full,
+pub(crate) enum Tries {
+    Preferred,
+    All,
 }
 
-// How a stretch ends.
+// A row that an action entered, with its estimate.
 #[derive(Clone, Copy)]
-pub(crate) enum End {
-    RanOut,
+pub(crate) struct Entered {
+    pub row: u16,
+    pub estimate: Estimate,
+}
+
+// A row with an estimate below that of the state from which a stretch began.
+#[derive(Clone, Copy)]
+pub(crate) struct Better {
+    pub row: u16,
+    pub steps: u16,
+}
+
+// A new state met a full closed list.
+#[derive(Clone, Copy)]
+pub(crate) struct StoreFull;
+
+// Why a phase stops while rows are left.
+#[derive(Clone, Copy)]
+pub(crate) enum Halt {
+    // the budget is used
     Spent,
+    // a new state met a full closed list
     Full,
-    Better(u16, u16),
 }
 
-// The verdict of a plan call.
+impl From<StoreFull> for Halt {
+    ghost from_gives = { λ _ halt. halt ≡ HaltFull };
+
+    fn from(_full: StoreFull) -> Halt {
+        Halt::Full
+    }
+}
+
+// The verdict of a plan call. Each has a word of its own in what is told, so it is no nest of an Option in a Result.
 #[derive(Clone, Copy, PartialEq, Eq, Debug)]
 pub enum Verdict {
     // so many actions stand at the front of the buffer
@@ -48,6 +75,19 @@ pub enum Verdict {
     Spent,
     // a new state met a full closed list
     Full,
+}
+
+impl From<Result<Option<u16>, Halt>> for Verdict {
+    ghost from_gives = { λ found verdict. verdict ≡ verdict_of found };
+
+    fn from(found: Result<Option<u16>, Halt>) -> Verdict {
+        match found {
+            Ok(Some(len)) => Verdict::Plan(len),
+            Ok(None) => Verdict::None,
+            Err(Halt::Spent) => Verdict::Spent,
+            Err(Halt::Full) => Verdict::Full,
+        }
+    }
 }
 
 // Why a plan call is refused.

@@ -48,8 +48,8 @@ fn longest_list(rt: HostRuntime) -> Result<(), Fail> {
         case(4096, 0, 1_000_000, Verdict::Plan(4095), 0, 4095),
     ];
     let task = counter(&rt, &BITS)?;
-    let mut queue = Queue::new(rt.alloc(), 4096)?;
-    check_calls(&rt, &task, &mut GoalCount {}, &mut queue, &list, &cases)
+    let queue = Queue::new(rt.alloc(), 4096)?;
+    check_calls(&rt, &task, GoalCount {}, queue, &list, &cases)
 }
 
 // The joined list would have 4,096 actions, and the best-first phase has 4,096 places for 4,097 states.
@@ -62,6 +62,6 @@ fn too_long_a_list(rt: HostRuntime) -> Result<(), Fail> {
     goals.push(ALL_SET)?;
     let cases = [case(4096, 1_000_000, 1_000_000, Verdict::Full, 4096, 4096)];
     let task = counter(&rt, &goals)?;
-    let mut queue = Queue::new(rt.alloc(), 4096)?;
-    check_calls(&rt, &task, &mut GoalCount {}, &mut queue, &[], &cases)
+    let queue = Queue::new(rt.alloc(), 4096)?;
+    check_calls(&rt, &task, GoalCount {}, queue, &[], &cases)
 }

@@ -1,6 +1,6 @@
 use crate::yards::{MARK, lift, set_of, task_of};
 use closed_list::{Row, ScannedStore, Store};
-use engine::{LONGEST, plan};
+use engine::{Budgets, LONGEST, Planner};
 use heuristic::{Estimate, GoalCount};
 use open_list::{Entry, Frontier, Queue};
 use std::process::Abort;
@@ -40,15 +40,16 @@ fn check_refused(rt: &(impl Abort + AllocGlobal), task: &Task, call: Attempt) ->
     let mut queue = Queue::new(rt.alloc(), call.waiting)?;
     let _ = queue.put(ENTRY);
     let mut buffer = [MARK; LONGEST];
-    match plan(
+    let mut planner = Planner::new(GoalCount {}, queue, store);
+    let budgets = Budgets {
+        hill: call.hill,
+        fallback: call.fallback,
+    };
+    match planner.plan(
         task,
         &set_of(&[call.state]),
         &set_of(&[call.goal]),
-        &mut GoalCount {},
-        &mut queue,
-        &mut store,
-        call.hill,
-        call.fallback,
+        budgets,
         &mut buffer,
     ) {
         Ok(_) => return Err(Fail::new("not refused")),
@@ -57,9 +58,9 @@ fn check_refused(rt: &(impl Abort + AllocGlobal), task: &Task, call: Attempt) ->
     for left in buffer.iter() {
         assert_eq!(rt; *left, MARK);
     }
-    assert_eq!(rt; store.count(), usize::from(call.places.min(1)));
-    assert!(rt; call.places == 0 || store.find(&set_of(&ROW_STATE)).is_some());
-    match queue.take() {
+    assert_eq!(rt; planner.searcher.store.count(), usize::from(call.places.min(1)));
+    assert!(rt; call.places == 0 || planner.searcher.store.find(&set_of(&ROW_STATE)).is_some());
+    match planner.frontier.take() {
         Some(left) => {
             assert!(rt; left == ENTRY);
             Ok(())

@@ -20,8 +20,8 @@ fn three_lifts(rt: HostRuntime) -> Result<(), Fail> {
         case(512, 10, 10, Verdict::Plan(3), 3, 0),
         case(512, 0, 0, Verdict::Spent, 0, 0),
     ];
-    check_weighted(&rt, &task, &mut RelaxedGraph::new(), &[2, 0, 1], &cases)?;
-    check_weighted(&rt, &task, &mut Weights::new(), &[2, 0, 1], &cases)
+    check_weighted(&rt, &task, RelaxedGraph::new(), &[2, 0, 1], &cases)?;
+    check_weighted(&rt, &task, Weights::new(), &[2, 0, 1], &cases)
 }
 
 // The state without the key is at never by relaxed plan, and takes a place all the same. Goal count climbs to it.
@@ -34,9 +34,9 @@ fn key(rt: HostRuntime) -> Result<(), Fail> {
         case(3, 10, 10, Verdict::Plan(2), 2, 0),
         case(2, 10, 10, Verdict::Full, 1, 1),
     ];
-    check_weighted(&rt, &task, &mut RelaxedGraph::new(), &[1, 0], &cases)?;
+    check_weighted(&rt, &task, RelaxedGraph::new(), &[1, 0], &cases)?;
     let counted = [case(512, 10, 10, Verdict::Plan(2), 3, 3)];
-    check_weighted(&rt, &task, &mut GoalCount {}, &[1, 0], &counted)
+    check_weighted(&rt, &task, GoalCount {}, &[1, 0], &counted)
 }
 
 // Estimate never at the start is answered whatever the budgets.
@@ -47,9 +47,9 @@ fn one_record(rt: HostRuntime) -> Result<(), Fail> {
         case(1, 0, 1, Verdict::None, 0, 1),
         case(1, 0, 0, Verdict::Spent, 0, 0),
     ];
-    check_weighted(&rt, &task, &mut GoalCount {}, &[], &counted)?;
+    check_weighted(&rt, &task, GoalCount {}, &[], &counted)?;
     let never = [case(1, 0, 0, Verdict::None, 0, 0)];
-    check_weighted(&rt, &task, &mut RelaxedGraph::new(), &[], &never)
+    check_weighted(&rt, &task, RelaxedGraph::new(), &[], &never)
 }
 
 #[test]
@@ -59,9 +59,9 @@ fn no_goals(rt: HostRuntime) -> Result<(), Fail> {
         case(1, 0, 0, Verdict::Plan(0), 0, 0),
         case(1, 10, 10, Verdict::Plan(0), 0, 0),
     ];
-    check_weighted(&rt, &task, &mut GoalCount {}, &[], &cases)?;
-    check_weighted(&rt, &task, &mut RelaxedGraph::new(), &[], &cases)?;
-    check_weighted(&rt, &task, &mut Weights::new(), &[], &cases)
+    check_weighted(&rt, &task, GoalCount {}, &[], &cases)?;
+    check_weighted(&rt, &task, RelaxedGraph::new(), &[], &cases)?;
+    check_weighted(&rt, &task, Weights::new(), &[], &cases)
 }
 
 // No action adds the goal at once, so goal count prefers none: row 0 is taken up, again with all actions, and then row 1.
@@ -76,7 +76,7 @@ fn all_actions_and_full(rt: HostRuntime) -> Result<(), Fail> {
         case(2, 10, 10, Verdict::Full, 3, 2),
         case(1, 10, 10, Verdict::Full, 2, 1),
     ];
-    check_weighted(&rt, &task, &mut GoalCount {}, &[0, 1], &cases)
+    check_weighted(&rt, &task, GoalCount {}, &[0, 1], &cases)
 }
 
 // Each action uses the key up, so both results of row 0 are at never: the hill phase skips them, and the other does not put them.
@@ -88,7 +88,7 @@ fn never_rows(rt: HostRuntime) -> Result<(), Fail> {
         case(3, 10, 1, Verdict::None, 2, 1),
         case(2, 10, 1, Verdict::Full, 1, 1),
     ];
-    check_weighted(&rt, &task, &mut RelaxedGraph::new(), &[], &cases)
+    check_weighted(&rt, &task, RelaxedGraph::new(), &[], &cases)
 }
 
 // Action 0 leads to {0}, which is better by the estimate; there action 1 deletes 0, which comes no more. The goals are the fifth state.
@@ -100,7 +100,7 @@ fn dead_end(rt: HostRuntime) -> Result<(), Fail> {
         case(5, 10, 10, Verdict::Plan(2), 3, 3),
         case(4, 10, 10, Verdict::Full, 3, 3),
     ];
-    check_weighted(&rt, &task, &mut RelaxedGraph::new(), &[1, 0], &cases)
+    check_weighted(&rt, &task, RelaxedGraph::new(), &[1, 0], &cases)
 }
 
 // Action 0 gives a goal up. The hill phase takes that row up all the same, and a state with all goals meets its five rows.
@@ -114,14 +114,14 @@ fn detour(rt: HostRuntime) -> Result<(), Fail> {
         lift(&[3], &[0], &[]),
     ];
     let task = task_of(&rt, &[4], &[0, 4], &actions)?;
-    let mut count = GoalCount {};
+    let count = GoalCount {};
     let ordered = [case(5, 10, 10, Verdict::Plan(2), 4, 2)];
-    check_weighted(&rt, &task, &mut count, &[2, 3], &ordered)?;
-    let mut greedy = GreedyFrontier::new(rt.alloc(), 5)?;
-    check_calls(&rt, &task, &mut count, &mut greedy, &[2, 3], &ordered)?;
-    let mut queue = Queue::new(rt.alloc(), 5)?;
+    check_weighted(&rt, &task, count, &[2, 3], &ordered)?;
+    let greedy = GreedyFrontier::new(rt.alloc(), 5)?;
+    check_calls(&rt, &task, count, greedy, &[2, 3], &ordered)?;
+    let queue = Queue::new(rt.alloc(), 5)?;
     let queued = [case(5, 10, 10, Verdict::Full, 4, 3)];
-    check_calls(&rt, &task, &mut count, &mut queue, &[], &queued)
+    check_calls(&rt, &task, count, queue, &[], &queued)
 }
 
 // Two actions that need nothing reach four states. With as many places the answer is plan or none; with three the last state meets a full store,
@@ -129,18 +129,18 @@ fn detour(rt: HostRuntime) -> Result<(), Fail> {
 #[test]
 fn as_many_places_as_states(rt: HostRuntime) -> Result<(), Fail> {
     let actions = [lift(&[], &[0], &[]), lift(&[], &[1], &[])];
-    let mut count = GoalCount {};
+    let count = GoalCount {};
     let reached = [
         case(4, 0, 4, Verdict::Plan(2), 0, 2),
         case(3, 0, 4, Verdict::Full, 0, 2),
     ];
     let task = task_of(&rt, &[], &[0, 1], &actions)?;
-    check_weighted(&rt, &task, &mut count, &[0, 1], &reached)?;
+    check_weighted(&rt, &task, count, &[0, 1], &reached)?;
     let missed = [
         case(4, 10, 4, Verdict::None, 5, 4),
         case(4, 10, 3, Verdict::Spent, 5, 3),
         case(3, 10, 4, Verdict::Full, 3, 2),
     ];
     let task = task_of(&rt, &[], &[9], &actions)?;
-    check_weighted(&rt, &task, &mut count, &[], &missed)
+    check_weighted(&rt, &task, count, &[], &missed)
 }

@@ -1,6 +1,6 @@
 // Yards, and what plan calls answer on them.
-use closed_list::{ScannedStore, Store};
-use engine::{LONGEST, Verdict, plan};
+use closed_list::ScannedStore;
+use engine::{Budgets, LONGEST, Planner, Verdict};
 use facts::FactSet;
 use heuristic::Estimator;
 use open_list::Frontier;
@@ -105,26 +105,27 @@ fn check_buffer(rt: &impl Abort, buffer: &[u16], list: &[u16], verdict: Verdict)
 }
 
 // Makes the calls; `list` is what those that answer plan find.
-pub fn check_calls<E: Estimator, F: Frontier>(
+pub fn check_calls<E: Estimator + Drop, F: Frontier + Drop>(
     rt: &(impl Abort + AllocGlobal),
     task: &Task,
-    estimator: &mut E,
-    frontier: &mut F,
+    estimator: E,
+    frontier: F,
     list: &[u16],
     cases: &[Call],
 ) -> Result<(), Fail> {
+    let mut planner = Planner::new(estimator, frontier, ScannedStore::new(rt.alloc(), 0)?);
     for case in cases {
-        let mut store = ScannedStore::new(rt.alloc(), case.places)?;
+        planner.searcher.store = ScannedStore::new(rt.alloc(), case.places)?;
+        let budgets = Budgets {
+            hill: case.hill,
+            fallback: case.fallback,
+        };
         let mut buffer = [MARK; LONGEST];
-        let (verdict, climbed, tried) = plan(
+        let (verdict, climbed, tried) = planner.plan(
             task,
             &task.initial(),
             &task.goal(),
-            estimator,
-            frontier,
-            &mut store,
-            case.hill,
-            case.fallback,
+            budgets,
             &mut buffer,
         )?;
         assert_eq!(rt; verdict, case.verdict);
@@ -136,13 +137,13 @@ pub fn check_calls<E: Estimator, F: Frontier>(
 }
 
 // With the weighted frontier.
-pub fn check_weighted<E: Estimator>(
+pub fn check_weighted<E: Estimator + Drop>(
     rt: &(impl Abort + AllocGlobal),
     task: &Task,
-    estimator: &mut E,
+    estimator: E,
     list: &[u16],
     cases: &[Call],
 ) -> Result<(), Fail> {
-    let mut frontier = WeightedFrontier::new(rt.alloc(), 512)?;
-    check_calls(rt, task, estimator, &mut frontier, list, cases)
+    let frontier = WeightedFrontier::new(rt.alloc(), 512)?;
+    check_calls(rt, task, estimator, frontier, list, cases)
 }

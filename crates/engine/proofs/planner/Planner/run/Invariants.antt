@@ -1,0 +1,17 @@
+use Rattle.std.proofs.Common.{◌≡◌, ◌-◌, vec_items}
+use Rattle.closed_list.specs.Rows.{row}
+use Rattle.engine.specs.Generation.{posed}
+use Rattle.engine.specs.BestFirst.{Explored}
+use Rattle.engine.proofs.planner.Planner.run.Given as goal
+
+abbrev pub invariant-loop-entry : goal.invariant-loop-entry
+invariant-loop-entry g l =
+    record {
+      so_far : Explored (posed g.E.Estimator.meaning g.E.Estimator.prefers (vec_items l.problem.task.now.actions) l.problem.goal.now.words (g.S.Store.room l.initial.self.searcher.store)) l.initial.expansions.budget (row (g.S.Store.rows l.initial.self.searcher.store) 0).state.words (g.S.Store.rows l.self.searcher.store) (g.F.Frontier.waiting l.self.frontier) l.expansions.count;
+      store_room : g.S.Store.room l.self.searcher.store ≡ g.S.Store.room l.initial.self.searcher.store;
+      frontier_room : g.F.Frontier.room l.self.frontier ≡ g.F.Frontier.room l.initial.self.frontier;
+      budget : l.expansions.budget ≡ l.initial.expansions.budget;
+    }
+
+abbrev pub decreases-loop-entry : goal.decreases-loop-entry
+decreases-loop-entry g l = l.expansions.budget - l.expansions.count

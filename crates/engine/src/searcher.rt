@@ -1,0 +1,105 @@
+// Rows with their estimates: the step that both phases are made of.
+ghost use Rattle.std.specs.Prelude.{◌≡◌, ℕ, ◌<◌, ◌≤◌, [], ◌∷◌, length, take};
+ghost use Rattle.heuristic.specs.declared.estimate.Estimate.TheVariants.{Steps};
+ghost use Rattle.closed_list.specs.Rows.{row as row_at};
+ghost use Rattle.engine.specs.Generation.{Generates, IsAction, Successor, first_row, posed};
+ghost use Rattle.engine.specs.Paths.{path as path_to};
+
+use crate::model::{Entered, Problem, Start, StoreFull};
+use crate::taken::Taken;
+use closed_list::{Row, Store};
+use facts::{ActionSet, FactSet};
+use heuristic::{Estimate, Estimator};
+use strips::Action;
+
+// An estimator, and the closed list of the states that it estimated.
+#[derive(Drop)]
+pub struct Searcher<E, S> {
+    pub estimator: E,
+    pub store: S,
+}
+
+// The result of the action in the state, where it is applicable.
+fn successor(action: &Action, state: &FactSet) -> Option<FactSet>
+    ensures result { Successor action.now state.now.words result }
+{
+    action.is_applicable(state).then(|| action.apply(state))
+}
+
+impl<E: Estimator, S: Store> Searcher<E, S> {
+    // Enters the result of action k in the state of the row that is taken up.
+    pub(crate) fn generate(
+        &mut self,
+        problem: Problem<'_>,
+        parent: Taken,
+        k: u16,
+        action: &Action,
+    ) -> Result<Option<Entered>, StoreFull>
+        requires is { IsAction problem.task.now.actions.items k action.now }
+        ensures change { Generates (posed E.meaning E.prefers problem.entry.task.now.actions.items problem.entry.goal.now.words (S.room self.old.store)) parent.number parent.row k (S.rows self.old.store) result (S.rows self.new.store) }
+        ensures same { S.room self.new.store ≡ S.room self.old.store }
+    {
+        let Some(state) = successor(action, &parent.row.state) else {
+            return Ok(None);
+        };
+        if let Some(_) = self.store.find(&state) {
+            return Ok(None);
+        }
+        if self.store.count() == self.store.places() {
+            return Err(StoreFull);
+        }
+        let mut preferred = ActionSet::empty();
+        let estimate = self
+            .estimator
+            .estimate(problem.task, problem.goal, &state, &mut preferred);
+        let entered = self.store.enter(Row {
+            state,
+            parent: parent.number,
+            action: k,
+            distance: parent.row.distance + 1,
+            estimate,
+        });
+        match entered {
+            Ok(row) => Ok(Some(Entered { row, estimate })),
+            Err(_) => Err(StoreFull),
+        }
+    }
+
+    // Makes the state the only row.
+    pub(crate) fn fresh(&mut self, start: Start)
+        requires some { 0 < S.room self.old.store }
+        ensures rows { S.rows self.new.store ≡ first_row start.state (Steps start.steps) ∷ [] }
+        ensures same { S.room self.new.store ≡ S.room self.old.store }
+    {
+        self.store.clear();
+        let _ = self.store.enter(Row {
+            state: start.state,
+            parent: 0,
+            action: 0,
+            distance: 0,
+            estimate: Estimate::Steps(start.steps),
+        });
+    }
+
+    // Writes the actions on the way to row j, and answers how many there are.
+    pub(crate) fn write_path(&self, j: u16, out: &mut [u16]) -> u16
+        requires there { j < length (S.rows self.now.store) }
+        requires parents { (i : ℕ) → i < length (S.rows self.now.store) → (row_at (S.rows self.now.store) i).parent < length (S.rows self.now.store) }
+        requires fits { (row_at (S.rows self.now.store) j).distance ≤ length out.old }
+        ensures path { take result out.new ≡ path_to (S.rows self.now.store) j }
+        ensures far { result ≡ (row_at (S.rows self.now.store) j).distance }
+    {
+        let Some(mut at) = self.store.row(j) else {
+            unreachable!();
+        };
+        let far = at.distance;
+        for d in (0..far).rev() {
+            out[d as usize] = at.action;
+            let Some(parent) = self.store.row(at.parent) else {
+                unreachable!();
+            };
+            at = parent;
+        }
+        far
+    }
+}
