@@ -1,5 +1,5 @@
 -- Lemmas on the faults of a task file.
-use Rattle.std.proofs.Common.{◌≡◌, ℕ, zero, suc, ◌+◌, ◌*◌, ◌/◌, ◌%◌, ◌^◌, ◌<◌, ◌≤◌, Bool, true, List, [], map, length, get_or, Some, None, Option, sym, refl, ap, ◌∙◌, ⊎_elim, add-one, arith, below_more}
+use Rattle.std.proofs.Common.{◌≡◌, ℕ, zero, suc, ◌+◌, ◌*◌, ◌/◌, ◌%◌, ◌^◌, ◌<◌, ◌≤◌, Bool, true, List, [], map, length, get_or, Some, None, Option, sym, refl, ap, ◌∙◌, ⊎_elim, arith, below_more}
 use Rattle.std.proofs.lemmas.Bool.{cases_lt}
 use Rattle.facts.proofs.Bytes.{has_words, words_small}
 use Rattle.facts.proofs.Sets.{length_words}
@@ -19,9 +19,6 @@ or_none None p e = (refl, e)
 or_none (Some f) p e = absurd (let z : ◌≡◌ {A = ℕ} 0 1 = cc in omega arith)
 
 -- checks in order, of which the first that fails is told
-pub first_more : (check : ℕ → Option Fault) (k : ℕ) → first_fault check k ≡ None → check k ≡ None → first_fault check (k + 1) ≡ None
-first_more check k p q = ap (first_fault check) (add-one k) ∙ ap (λ (o : Option Fault). or_else o (check k)) p ∙ q
-
 pub first_stop : (check : ℕ → Option Fault) (f : Fault) (n k : ℕ) → k < n → first_fault check k ≡ None → check k ≡ Some f → first_fault check n ≡ Some f
 first_stop check f zero k l p q = absurd (omega arith)
 first_stop check f (suc n) k l p q =
