@@ -10,7 +10,7 @@ use Rattle.strips.specs.Semantics.{State}
 use Rattle.heuristic.specs.declared.estimate.Estimate.TheVariants.{Steps}
 use Rattle.heuristic.specs.Laws.{Laws}
 use Rattle.heuristic.specs.Useful.{useful}
-use Rattle.heuristic.specs.Words.{size_bound, size_zero, within_small, within_few}
+use Rattle.heuristic.specs.Words.{steps_same, size_bound, size_zero, within_small, within_few}
 use Rattle.heuristic.specs.GoalCount.{goals_missing, adds_missing}
 
 minus_none : (a b : ℕ) → minus a b ≡ 0 → bit_and a b ≡ a
@@ -26,9 +26,6 @@ left_small goal s small k = let e = getD_without goal s k in let m = minus_small
 
 none_left : (goal s : State) → subset goal s ≡ true → (k : ℕ) → slice_index (without goal s) k ≡ 0
 none_left goal s e k = getD_without goal s k ∙ ap (bit_xor (slice_index goal k)) (subset_word goal s e k) ∙ xor_self (slice_index goal k)
-
-steps_same : (m n : ℕ) → Steps m ≡ Steps n → m ≡ n
-steps_same m n e = cc
 
 few_left : (goal s : State) → ((k : ℕ) → 4 ≤ k → slice_index goal k ≡ 0) → (k : ℕ) → 4 ≤ k → slice_index (without goal s) k ≡ 0
 few_left goal s none k l =

@@ -6,13 +6,14 @@ use Rattle.std.proofs.lemmas.Nat.{and_le_l, and_le_r, ones-le}
 use Rattle.std.specs.Int.Count.{ones_step}
 use Rattle.std.proofs.lemmas.List.Sums.{sum_by-cons, get_or-le-sum_by}
 use Rattle.std.proofs.lemmas.List.{get_or_past}
-use Rattle.std.proofs.lemmas.Bool.{and_left, cases_lt, le-ltb}
+use Rattle.std.proofs.lemmas.Bool.{and_left, and_parts, both_ways, cases_lt, le-ltb}
 use Rattle.facts.specs.Words.{bit, common, has, meets, none, subset, size}
-use Rattle.facts.proofs.Sets.{bit-and, bit_is, getD_common, has_at, low_same, none_from, none_word, pow_two_suc, same_bits, subset_word}
+use Rattle.facts.proofs.Sets.{bit-and, bit_is, getD_common, has_at, low_same, none_from, none_word, pow_two_suc, same_bits, subset_from, subset_word, word_from_has, zero_word}
 use Rattle.strips.specs.declared.action.Action.{Action}
 use Rattle.strips.specs.Semantics.{State, applicable}
-use Rattle.strips.specs.Sound.{act, AllWithin}
+use Rattle.strips.specs.Sound.{act, AllWithin, within}
 use Rattle.strips.proofs.Runs.{adds_within}
+use Rattle.heuristic.specs.declared.estimate.Estimate.TheVariants.{Steps}
 use Rattle.heuristic.specs.Useful.{useful}
 
 ones_none : (n w : ℕ) → w < 2 ^ n → count_ones w ≡ 0 → w ≡ 0
@@ -62,6 +63,20 @@ within_few facts ws n few e k l =
     let m = and_le_r (slice_index ws k) (slice_index facts k) in
     omega arith
 
+past : (facts ws : State) → length facts ≤ 4 → subset ws facts ≡ true → (f : ℕ) → 256 ≤ f → has ws f ≡ false
+past facts ws few e f l = zero_word ws f (within_few facts ws 4 few e (f / 64) (omega arith))
+
+-- a subset, by its facts
+pub subset_below : (facts xs ys : State) → length facts ≤ 4 → ((k : ℕ) → slice_index facts k < 2 ^ 64) → subset xs facts ≡ true → ((f : ℕ) → f < 256 → has xs f ≡ true → has ys f ≡ true) → subset xs ys ≡ true
+subset_below facts xs ys few small e h =
+    subset_from xs ys
+    (λ k l. word_from_has xs ys k (within_small facts xs small e k)
+    (λ f y. ⊎_elim (λ m. h f m y) (λ m. absurd (both_ways (has xs f) (past facts xs few e f m) y)) (cases_lt f 256)))
+
+pub pre_within : (facts : State) (a : Action) → within facts a ≡ true → subset a.pre.words facts ≡ true
+unfolding within
+pre_within facts a e = (and_parts _ _ e).0
+
 -- whether sets have a common member depends on the members only
 none_same : (xs ys : List ℕ) → ((k : ℕ) → slice_index xs k ≡ slice_index ys k) → none xs ≡ true → none ys ≡ true
 none_same xs ys h e = none_from ys (λ k l. sym (h k) ∙ none_word xs e k)
@@ -102,3 +117,7 @@ useful_same facts acts s w v k few small ok h =
     (meets_same (act acts k).add.words w v (within_small facts (act acts k).add.words small into) (within_few facts (act acts k).add.words 4 few into) h))
     (λ l. and_left (nat_lt k (length acts)) _ (le-ltb k (length acts) l) ∙ sym (and_left (nat_lt k (length acts)) _ (le-ltb k (length acts) l)))
     (cases_lt k (length acts))
+
+-- an estimate that is a number
+pub steps_same : (m n : ℕ) → Steps m ≡ Steps n → m ≡ n
+steps_same m n e = cc
