@@ -2,7 +2,7 @@
 use Rattle.std.specs.Prelude.{◌≡◌, ℕ, zero, suc, ◌<◌, ◌≤◌, true, List, length, nat_lt, refl}
 use Rattle.std.proofs.Common.{sym, ap, ◌∙◌, ⊎_elim, arith}
 use Rattle.std.proofs.lemmas.List.{ext_get_or}
-use Rattle.std.proofs.lemmas.Bool.{cases_Bool, false≢true, le-leb, leb-true}
+use Rattle.std.proofs.lemmas.Bool.{cases_Bool, false≢true, leb-true}
 use Rattle.heuristic.specs.declared.estimate.Estimate.{Estimate}
 use Rattle.heuristic.specs.declared.estimate.Estimate.TheVariants.{Steps, Never}
 use Rattle.strips.specs.Semantics.{State}
@@ -12,10 +12,6 @@ use Rattle.weights.specs.Weights.{height, opening, pass, round, settled, weights
 use Rattle.weights.specs.Order.{cost_capped, cost_mono}
 use Rattle.weights.specs.Lowering.{pass_length, pass_still}
 use Rattle.weights.specs.Greatest.{Between, between_pass, between_still, opening_length, settled_falls, settled_none, settled_stops, weights_greatest}
-
-pub at_most_self : (e : Estimate) → at_most e e ≡ true
-at_most_self (Steps n) = le-leb n n (omega arith)
-at_most_self Never = refl
 
 pub at_most_both : (a b : Estimate) → at_most a b ≡ true → at_most b a ≡ true → a ≡ b
 at_most_both (Steps m) (Steps n) p q = ap Steps (omega (arith, leb-true m n p, leb-true n m q))

@@ -3,7 +3,7 @@ use Rattle.std.specs.Prelude.{◌≡◌, ℕ, zero, suc, ◌<◌, ◌≤◌, Boo
 use Rattle.std.proofs.Math.Path.{refl}
 use Rattle.std.proofs.Common.{sym, ap, ◌∙◌, ⊎_elim, arith}
 use Rattle.std.proofs.lemmas.List.{length-map}
-use Rattle.std.proofs.lemmas.Bool.{and_from, and_parts, both_ways, cases_Bool, or_left, or_right, not_from_false}
+use Rattle.std.proofs.lemmas.Bool.{and_from, both_ways, cases_Bool, or_left, or_right, not_from_false}
 use Rattle.facts.specs.Words.{has, subset, without}
 use Rattle.facts.proofs.Sets.{has_past, has_union, has_without}
 use Rattle.heuristic.specs.Laws.{Asked}
@@ -11,7 +11,7 @@ use Rattle.heuristic.specs.Relaxation.{IsRelaxedPlan, without_deletes}
 use Rattle.heuristic.specs.declared.estimate.Estimate.{Estimate}
 use Rattle.heuristic.specs.declared.estimate.Estimate.TheVariants.{Steps, Never}
 use Rattle.strips.specs.Semantics.{Run, State, applicable, result, stop}
-use Rattle.strips.specs.Sound.{act, within}
+use Rattle.strips.specs.Sound.{act}
 use Rattle.strips.specs.declared.action.Action.{Action}
 use Rattle.strips.proofs.Runs.{run_more}
 use Rattle.weights.specs.Laws.{GreatestAlone, NeverUnreached, UnreachedNever}
@@ -20,16 +20,12 @@ use Rattle.weights.specs.Weights.{goal_weight, height, least_if, lowered, openin
 use Rattle.weights.specs.Lowering.{lowered_at, pass_length}
 use Rattle.weights.specs.Greatest.{opening_at, opening_length, weights_greatest}
 use Rattle.weights.specs.Sums.{weighed}
-use Rattle.weights.specs.Lawful.{never_unplanned, subset_below}
+use Rattle.heuristic.proofs.Relaxing.{act_relaxed}
+use Rattle.heuristic.specs.Words.{pre_within, subset_below}
+use Rattle.weights.specs.Lawful.{never_unplanned}
 use Rattle.weights.proofs.Sums.{least_if_weighed, never_from, weighed_cost, weighed_total}
 use Rattle.weights.proofs.Greatest.{by_rounds, greatest_agree}
 use Rattle.weights.proofs.Sweeps.{pass_more, pass_none}
-
--- the relaxed task has the same costs and adds
-pub act_relaxed : (acts : List Action) (k : ℕ) → act (map without_deletes acts) k ≡ without_deletes (act acts k)
-act_relaxed [] k = refl
-act_relaxed (a ∷ acts) zero = refl
-act_relaxed (a ∷ acts) (suc k) = act_relaxed acts k
 
 cost_relaxed : (w : List Estimate) (a : Action) → cost w (without_deletes a) ≡ cost w a
 cost_relaxed w a = refl
@@ -63,10 +59,6 @@ kept_without t a f h =
 
 added_without : (t : State) (a : Action) (f : ℕ) → has a.add.words f ≡ true → has (result (without_deletes a) t) f ≡ true
 added_without t a f h = has_union (without t []) a.add.words f ∙ or_right _ _ h
-
-pre_within : (facts : State) (a : Action) → within facts a ≡ true → subset a.pre.words facts ≡ true
-unfolding within
-pre_within facts a e = (and_parts _ _ e).0
 
 module _ (facts : State) (acts : List Action) (goal s : State) (q : Asked facts acts goal s) where
   reached_more : (w u : List Estimate) (k : ℕ) → k < length acts → length u ≡ fact_count → Reached acts s w u → Reached acts s w (lowered (cost w (act acts k)) (act acts k).add.words u)

@@ -1,6 +1,6 @@
 -- Lemmas on sweeps: the actions lower one after the other, in place.
-use Rattle.std.proofs.Common.{◌≡◌, ℕ, suc, ◌+◌, ◌<◌, ◌≤◌, Bool, true, false, cond, ◌||◌, ltb, ◌≢◌, List, length, set, sym, refl, ap, ◌∙◌, subst, add-one, arith, below_more}
-use Rattle.std.proofs.lemmas.List.{ext_get_or, get_or-set_other, get_or-set_same, length-set}
+use Rattle.std.proofs.Common.{◌≡◌, ℕ, suc, ◌+◌, ◌<◌, ◌≤◌, Bool, true, false, cond, ◌||◌, ltb, List, length, sym, refl, ap, ◌∙◌, subst, add-one, arith}
+use Rattle.std.proofs.lemmas.List.{ext_get_or}
 use Rattle.std.proofs.lemmas.Bool.{le-ltb, lt-ltb, ltb-false, ltb-true}
 use Rattle.facts.specs.Words.{has}
 use Rattle.heuristic.specs.declared.estimate.Estimate.{Estimate}
@@ -8,7 +8,7 @@ use Rattle.heuristic.specs.declared.estimate.Estimate.TheVariants.{Steps, Never}
 use Rattle.strips.specs.Semantics.{State}
 use Rattle.strips.specs.Sound.{act}
 use Rattle.strips.specs.declared.action.Action.{Action}
-use Rattle.weights.specs.Tables.{Capped, cost, fact_count, weight}
+use Rattle.weights.specs.Tables.{cost, fact_count, weight}
 use Rattle.weights.specs.Weights.{height, lowered, opening, pass, weights}
 use Rattle.weights.specs.Order.{cost_capped}
 use Rattle.weights.specs.Lowering.{lowered_falls, pass_falls, pass_still}
@@ -28,17 +28,6 @@ pass_more costs acts n w = refl
 abbrev pub Opened : State → ℕ → List Estimate → Type 0
 Opened s n w = (length w ≡ fact_count) × ((k : ℕ) → k < n → weight w k ≡ cond (has s k) (Steps 0) Never)
 
-pub opened_more : (s : State) (n : ℕ) (w : List Estimate) (x : Estimate) (b : Bool) → n < fact_count → x ≡ cond b (Steps 0) Never → b ≡ has s n → Opened s n w → Opened s (n + 1) (set w n x)
-opened_more s n w x b l e h p = (
-  length-set w n x ∙ p.0,
-  below_more (λ k. weight (set w n x) k ≡ cond (has s k) (Steps 0) Never) n
-      (λ k m. let ne : k ≢ n = omega arith in get_or-set_other w n k x Never ne ∙ p.1 k m)
-      (get_or-set_same w n x Never (inside p.0) ∙ e ∙ ap (λ (y : Bool). cond y (Steps 0) Never) h),
-)
-  where
-    inside : length w ≡ fact_count → n < length w
-    inside q = omega arith
-
 pub opened_all : (s : State) (n : ℕ) (w : List Estimate) → fact_count ≤ n → Opened s n w → w ≡ opening s
 opened_all s n w l p =
     ext_get_or Never w (opening s) (p.0 ∙ sym (opening_length s)) (λ k m. p.1 k (through k m p.0) ∙ sym (opening_at s k (inside k m p.0)))
@@ -48,9 +37,6 @@ opened_all s n w l p =
 
     through : (k : ℕ) → k < length w → length w ≡ fact_count → k < n
     through k m q = omega arith
-
-pub capped_as : (w : List Estimate) (a : Action) (c : Estimate) → c ≡ cost w a → Capped c
-capped_as w a c e = subst Capped (sym e) (cost_capped w a)
 
 self : (n : ℕ) → n ≤ n
 self n = omega arith

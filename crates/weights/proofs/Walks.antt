@@ -2,6 +2,7 @@
 use Rattle.std.proofs.Common.{◌≡◌, ℕ, zero, suc, ◌+◌, ◌-◌, ◌<◌, ◌≤◌, Bool, true, false, not, ◌&&◌, ◌||◌, ltb, ◌≢◌, ◌⊎◌, List, length, get_or, set, Some, None, sym, refl, ap, ◌∙◌, inl, inr, ⊎_elim, add-zero, add-suc, add-one, arith}
 use Rattle.std.proofs.lemmas.List.{ext_get_or, get_or_default, get_or-set_other, get_or-set_same, length-set}
 use Rattle.std.proofs.lemmas.List.Sums.{sum_by-set}
+use Rattle.std.proofs.Math.Bool.{or-false, or-true}
 use Rattle.std.proofs.lemmas.Bool.{and_right, cases_eq, cases_lt, le-leb, le-ltb, lt-leb, lt-ltb, ltb-true, ltb-false}
 use Rattle.facts.specs.Members.{Next}
 use Rattle.facts.specs.Words.{has}
@@ -41,12 +42,6 @@ total_end w ws from sum l none e = e ∙ sym (total_gap w ws from fact_count l (
 pub record Partly (c : Estimate) (ws : State) (n : ℕ) (w u : List Estimate) : Type 0 where
   pub size : length u ≡ fact_count
   pub at : (f : ℕ) → f < fact_count → weight u f ≡ least_if (ltb f n && has ws f) c (weight w f)
-
-pub partly_start : (c : Estimate) (ws : State) (w : List Estimate) → length w ≡ fact_count → Partly c ws 0 w w
-partly_start c ws w e = record {
-  size = e;
-  at = λ f l. sym (ap (λ (b : Bool). least_if (b && has ws f) c (weight w f)) (le-ltb f 0 (omega arith)));
-}
 
 pub partly_next : (c : Estimate) (ws : State) (from m : ℕ) (w u : List Estimate) → m < fact_count → Next ws from (Some m) → Partly c ws from w u → Partly c ws (m + 1) w (set u m (least c (weight u m)))
 partly_next c ws from m w u l next p = record {
@@ -105,14 +100,6 @@ falls_rank (Steps m) Never h = sym (lt-ltb m 65535 (omega arith))
 falls_rank Never (Steps n) h = sym (le-ltb n n (omega arith))
 falls_rank Never Never h = refl
 
-or_true : (b : Bool) → (b || true) ≡ true
-or_true true = refl
-or_true false = refl
-
-or_false : (b : Bool) → (b || false) ≡ b
-or_false true = refl
-or_false false = refl
-
 pub fell_next : (c : Estimate) (w u : List Estimate) (m : ℕ) (fell : Bool) → Capped c → m < length u → (fell ≡ ltb (height u) (height w)) × (height u ≤ height w) → ((fell || not (at_most (weight u m) c)) ≡ ltb (height (set u m (least c (weight u m)))) (height w)) × (height (set u m (least c (weight u m))) ≤ height w)
 unfolding height
 fell_next c w u m fell h l inv =
@@ -123,21 +110,21 @@ fell_next c w u m fell h l inv =
     step : (b fell : Bool) (x r e s t : ℕ) → not (at_most (weight u m) c) ≡ b → ltb r e ≡ b → fell ≡ ltb s t → x + e ≡ s + r → r ≤ e → s ≤ t → ((fell || not (at_most (weight u m) c)) ≡ ltb x t) × (x ≤ t)
     step true fell x r e s t p q f sum low le =
         let less = ltb-true r e q in
-        (ap (λ (b : Bool). fell || b) p ∙ or_true fell ∙ sym (lt-ltb x t (omega arith)), omega arith)
+        (ap (λ (b : Bool). fell || b) p ∙ or-true fell ∙ sym (lt-ltb x t (omega arith)), omega arith)
     step false fell x r e s t p q f sum low le =
         let more = ltb-false r e q in
         let same : s ≡ x = omega arith in
-        (ap (λ (b : Bool). fell || b) p ∙ or_false fell ∙ f ∙ ap (λ (y : ℕ). ltb y t) same, omega arith)
+        (ap (λ (b : Bool). fell || b) p ∙ or-false fell ∙ f ∙ ap (λ (y : ℕ). ltb y t) same, omega arith)
 
--- the same with the terms of the code: i and j are the fact, and d is what is read past the table
-module _ (w u : List Estimate) (ws : State) (from m i j : ℕ) (d : Estimate) (size : length u ≡ fact_count) (ei : i ≡ m) (ej : j ≡ m) (l : m < fact_count) (next : Next ws from (Some m)) where
+-- the same with the terms of the code: i is the fact, j the next place, and d is what is read past the table
+module _ (w u : List Estimate) (ws : State) (from m i j : ℕ) (d : Estimate) (size : length u ≡ fact_count) (ei : i ≡ m) (ej : j ≡ m + 1) (l : m < fact_count) (next : Next ws from (Some m)) where
   read : get_or u i d ≡ weight u m
   read = let inside : m < length u = omega (arith, size) in ap (λ (k : ℕ). get_or u k d) ei ∙ get_or_default u m d Never inside
 
-  pub total_step : (sum r : Estimate) → r ≡ plus sum (get_or u i d) → sum ≡ total u ws from → r ≡ total u ws (j + 1)
-  total_step sum r e h = e ∙ ap (plus sum) read ∙ total_next u ws from m sum next h ∙ ap (λ (k : ℕ). total u ws (k + 1)) (sym ej)
+  pub total_step : (sum r : Estimate) → r ≡ plus sum (get_or u i d) → sum ≡ total u ws from → r ≡ total u ws j
+  total_step sum r e h = e ∙ ap (plus sum) read ∙ total_next u ws from m sum next h ∙ ap (total u ws) (sym ej)
 
-  pub partly_step : (c x : Estimate) → x ≡ least c (get_or u i d) → Partly c ws from w u → Partly c ws (j + 1) w (set u i x)
+  pub partly_step : (c x : Estimate) → x ≡ least c (get_or u i d) → Partly c ws from w u → Partly c ws j w (set u i x)
   partly_step c x e p = rw (e, read, ei, ej) (partly_next c ws from m w u l next p)
 
   pub fell_step : (c x : Estimate) (fell r : Bool) → Capped c → x ≡ least c (get_or u i d) → r ≡ not (at_most (get_or u i d) c) → (fell ≡ ltb (height u) (height w)) × (height u ≤ height w) → ((fell || r) ≡ ltb (height (set u i x)) (height w)) × (height (set u i x) ≤ height w)

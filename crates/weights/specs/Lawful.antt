@@ -1,16 +1,16 @@
 -- The estimate keeps the laws.
-use Rattle.std.specs.Prelude.{◌≡◌, ℕ, ◌/◌, ◌^◌, ◌<◌, ◌≤◌, Bool, true, false, cond, List, map, length, slice_index}
+use Rattle.std.specs.Prelude.{◌≡◌, ℕ, ◌<◌, ◌≤◌, Bool, true, false, cond, if◌then◌else◌, List, map, length}
 use Rattle.std.proofs.Math.Path.{refl}
 use Rattle.std.proofs.Common.{sym, ap, ◌∙◌, ⊎_elim, arith}
 use Rattle.std.specs.List.{range_with_len}
 use Rattle.std.proofs.lemmas.List.FromFn.{get_or-map-range_with_len}
-use Rattle.std.proofs.lemmas.Bool.{and_parts, both_ways, cases_lt, le-leb, ltb-true, or_cases}
-use Rattle.facts.specs.Words.{has, subset, without}
-use Rattle.facts.proofs.Sets.{has_union, has_without, subset_from, subset_has, word_from_has, zero_word}
+use Rattle.std.proofs.lemmas.Bool.{and_parts, le-leb, ltb-true, or_cases}
+use Rattle.facts.specs.Words.{has, without}
+use Rattle.facts.proofs.Sets.{has_union, has_without, subset_has}
 use Rattle.heuristic.specs.Laws.{Laws}
 use Rattle.heuristic.specs.declared.estimate.Estimate.{Estimate}
 use Rattle.heuristic.specs.declared.estimate.Estimate.TheVariants.{Steps, Never}
-use Rattle.heuristic.specs.Words.{within_few, within_small}
+use Rattle.heuristic.specs.Words.{steps_same, subset_below}
 use Rattle.strips.specs.Semantics.{IsPlan, Run, State, result, step, stop}
 use Rattle.strips.specs.Sound.{act}
 use Rattle.strips.specs.declared.action.Action.{Action}
@@ -18,23 +18,13 @@ use Rattle.weights.specs.Laws.{ZeroIsTrue}
 use Rattle.weights.specs.Tables.{Capped, Feasible, at_most, cost, fact_count, plus, total, weight}
 use Rattle.weights.specs.Weights.{all_applicable, goal_weight, weights}
 use Rattle.heuristic.specs.Useful.{applicable_here}
-use Rattle.weights.specs.Order.{steps_never, steps_same, total_capped}
+use Rattle.weights.specs.Order.{steps_never, total_capped}
 use Rattle.weights.specs.Greatest.{weights_greatest}
 use Rattle.weights.specs.Sums.{cost_weighed, total_weighed, total_zero, weighed, weighed_below, weighed_never, zero_total}
 
--- sets within the facts in use have no fact past the last
-past : (facts ws : State) → length facts ≤ 4 → subset ws facts ≡ true → (f : ℕ) → fact_count ≤ f → has ws f ≡ false
-past facts ws few e f l = zero_word ws f (within_few facts ws 4 few e (f / 64) (omega arith))
-
-pub subset_below : (facts xs ys : State) → length facts ≤ 4 → ((k : ℕ) → slice_index facts k < 2 ^ 64) → subset xs facts ≡ true → ((f : ℕ) → f < fact_count → has xs f ≡ true → has ys f ≡ true) → subset xs ys ≡ true
-subset_below facts xs ys few small e h =
-    subset_from xs ys
-    (λ k l. word_from_has xs ys k (within_small facts xs small e k)
-    (λ f y. ⊎_elim (λ m. h f m y) (λ m. absurd (both_ways (has xs f) (past facts xs few e f m) y)) (cases_lt f fact_count)))
-
 -- only the facts of the state weigh 0: the table with 1 for all others is feasible
 abbrev near : State → List Estimate
-near s = map (λ f. Steps (cond (has s f) 0 1)) (range_with_len 0 fact_count)
+near s = map (λ f. Steps (if has s f then 0 else 1)) (range_with_len 0 fact_count)
 
 near_at : (s : State) (f : ℕ) → f < fact_count → weight (near s) f ≡ Steps (cond (has s f) 0 1)
 near_at s f l = get_or-map-range_with_len (λ f. Steps (cond (has s f) 0 1)) 0 fact_count f f Never l (omega arith)

@@ -5,13 +5,11 @@ use Rattle.std.proofs.lemmas.Bool.{le-leb, leb-true, false≢true}
 use Rattle.facts.specs.Words.{has}
 use Rattle.heuristic.specs.declared.estimate.Estimate.{Estimate}
 use Rattle.heuristic.specs.declared.estimate.Estimate.TheVariants.{Steps, Never}
+use Rattle.heuristic.specs.Words.{steps_same}
 use Rattle.strips.specs.Semantics.{State}
 use Rattle.strips.specs.declared.action.Action.{Action}
 use Rattle.weights.specs.Tables.{Capped, at_most, cost, fact_count, plus, plus_if, total, weight}
 use Rattle.weights.specs.Weights.{least, least_if, rank}
-
-pub steps_same : (m n : ℕ) → Steps m ≡ Steps n → m ≡ n
-steps_same m n e = cc
 
 pub steps_never : (n : ℕ) → Steps n ≢ Never
 steps_never n e = let z : ◌≡◌ {A = ℕ} 0 1 = cc in omega arith

@@ -8,7 +8,8 @@ use Rattle.heuristic.specs.declared.estimate.Estimate.TheVariants.{Steps, Never}
 use Rattle.strips.specs.Semantics.{State}
 use Rattle.strips.specs.declared.action.Action.{Action}
 use Rattle.weights.specs.Tables.{at_most, cost, fact_count, plus, plus_if, total, weight}
-use Rattle.weights.specs.Order.{steps_same, steps_never}
+use Rattle.heuristic.specs.Words.{steps_same}
+use Rattle.weights.specs.Order.{steps_never}
 
 -- one fact of those below n + 1
 pub last_or : (P : ℕ → Type 0) (n f : ℕ) → f < suc n → P n → (f < n → P f) → P f

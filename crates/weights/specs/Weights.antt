@@ -1,5 +1,5 @@
 -- The weights of a state's facts, found by lowering from never until nothing falls, and the estimate that sums those of the goals.
-use Rattle.std.specs.Prelude.{ℕ, zero, suc, ◌+◌, min, Bool, true, false, cond, List, [], ◌∷◌, map, length, sum_by, nat_lt}
+use Rattle.std.specs.Prelude.{ℕ, zero, suc, ◌+◌, min, Bool, true, false, if◌then◌else◌, List, [], ◌∷◌, map, length, sum_by, nat_lt}
 use Rattle.std.specs.List.{range_with_len}
 use Rattle.facts.specs.Words.{has}
 use Rattle.heuristic.specs.Laws.{most_steps}
@@ -56,7 +56,7 @@ settled acts (suc n) w =
 
 -- before any lowering: true facts weigh 0, the others never
 unfoldable pub opening : State → List Estimate
-opening s = map (λ f. cond (has s f) (Steps 0) Never) (range_with_len 0 fact_count)
+opening s = map (λ f. if has s f then Steps 0 else Never) (range_with_len 0 fact_count)
 
 unfoldable pub weights : List Action → State → List Estimate
 weights acts s = settled acts (height (opening s)) (opening s)

@@ -15,18 +15,7 @@ pub(crate) fn plus(a: Estimate, b: Estimate) -> Estimate
         (Estimate::Steps(m), Estimate::Steps(n)) => Estimate::Steps(
             m.saturating_add(n).min(MOST_STEPS),
         ),
-        (Estimate::Never, _) => Estimate::Never,
-        (_, Estimate::Never) => Estimate::Never,
-    }
-}
-
-fn is_lower(a: Estimate, b: Estimate) -> bool
-    ensures { result ≡ not (at_most b a) }
-{
-    match (a, b) {
-        (Estimate::Steps(m), Estimate::Steps(n)) => m < n,
-        (Estimate::Steps(_), Estimate::Never) => true,
-        (Estimate::Never, _) => false,
+        _ => Estimate::Never,
     }
 }
 
@@ -35,7 +24,7 @@ pub(crate) fn lower(weight: &mut Estimate, cost: Estimate) -> bool
     ensures weight { weight.new ≡ least cost weight.old }
     ensures fell { result ≡ not (at_most weight.old cost) }
 {
-    let falls = is_lower(cost, *weight);
+    let falls = cost < *weight;
     if falls {
         *weight = cost;
     }

@@ -1,24 +1,12 @@
-ghost use Rattle.std.specs.Prelude.{◌≡◌, ℕ, ◌<◌, cond, length, nat_lt};
-ghost use Rattle.strips.specs.Sound.{act};
+ghost use Rattle.std.specs.Prelude.{◌≡◌, length, nat_lt};
 ghost use Rattle.weights.specs.Tables.{Capped, cost as cost_of, fact_count, total as total_of};
 ghost use Rattle.weights.specs.Weights.{height, lowered, opening, pass, weights as weights_of};
 
 use crate::adding::{lower, plus};
-use crate::table::{FACTS, Weights};
+use crate::table::Weights;
 use facts::FactSet;
 use heuristic::Estimate;
 use strips::{Action, Task};
-
-// The weight of a fact before any lowering.
-fn first_weight(is_true: bool) -> Estimate
-    ensures { result ≡ cond is_true (Estimate.Steps 0) Estimate.Never }
-{
-    if is_true {
-        Estimate::Steps(0)
-    } else {
-        Estimate::Never
-    }
-}
 
 impl Weights {
     // The sum of the weights of the set's facts.
@@ -26,10 +14,8 @@ impl Weights {
         ensures { result ≡ total_of self.now.table set.now.words fact_count }
     {
         let mut sum = Estimate::Steps(0);
-        let mut from = 0;
-        while let Some(fact) = set.next(from) {
+        for fact in set.iter() {
             sum = plus(sum, self.table[usize::from(fact)]);
-            from = usize::from(fact) + 1;
         }
         sum
     }
@@ -41,10 +27,8 @@ impl Weights {
         ensures fell { result ≡ nat_lt (height self.new.table) (height self.old.table) }
     {
         let mut fell = false;
-        let mut from = 0;
-        while let Some(fact) = set.next(from) {
+        for fact in set.iter() {
             fell |= lower(&mut self.table[usize::from(fact)], cost);
-            from = usize::from(fact) + 1;
         }
         fell
     }
@@ -57,18 +41,12 @@ impl Weights {
     }
 
     // Lowers what an action adds to its cost, and says whether a weight fell.
-    fn lower_by(&mut self, task: &Task, k: usize) -> bool
-        requires { k < length task.now.actions.items }
-        ensures table { self.new.table ≡ lowered (cost_of self.old.table (act task.now.actions.items k)) (act task.now.actions.items k).add.words self.old.table }
+    fn lower_by(&mut self, action: &Action) -> bool
+        ensures table { self.new.table ≡ lowered (cost_of self.old.table action.now) action.now.add.words self.old.table }
         ensures fell { result ≡ nat_lt (height self.new.table) (height self.old.table) }
     {
-        match task.action(k) {
-            Some(action) => {
-                let cost = self.cost(action);
-                self.lower_all(&action.add, cost)
-            }
-            None => false,
-        }
+        let cost = self.cost(action);
+        self.lower_all(&action.add, cost)
     }
 
     // Goes through the actions once, and says whether a weight fell.
@@ -77,8 +55,8 @@ impl Weights {
         ensures fell { result ≡ nat_lt (height self.new.table) (height self.old.table) }
     {
         let mut fell = false;
-        for k in 0..task.action_count() {
-            fell |= self.lower_by(task, k);
+        for action in task.actions() {
+            fell |= self.lower_by(action);
         }
         fell
     }
@@ -87,8 +65,12 @@ impl Weights {
     fn open(&mut self, state: &FactSet)
         ensures { self.new.table ≡ opening state.now.words }
     {
-        for f in 0..FACTS {
-            self.table[f] = first_weight(state.contains(f as u8));
+        for (f, weight) in self.table.iter_mut().enumerate() {
+            *weight = if state.contains(f as u8) {
+                Estimate::Steps(0)
+            } else {
+                Estimate::Never
+            };
         }
     }
 

@@ -3,7 +3,7 @@ use Rattle.weights.specs.Tables.{cost}
 use Rattle.weights.specs.Weights.{height, pass}
 use Rattle.weights.proofs.table.Weights.sweep.Given as goal
 
-abbrev pub invariant-loop-k : goal.invariant-loop-k
-invariant-loop-k l =
-    (l.self.table ≡ pass cost (vec_items l.task.actions) l.k l.initial.self.table)
+abbrev pub invariant-loop-action : goal.invariant-loop-action
+invariant-loop-action l =
+    (l.self.table ≡ pass cost (vec_items l.task.actions) l.action-index l.initial.self.table)
     × (l.fell ≡ ltb (height l.self.table) (height l.initial.self.table))
