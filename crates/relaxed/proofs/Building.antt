@@ -1,6 +1,7 @@
 -- The table follows the layers.
 use Rattle.std.specs.Prelude.{◌≡◌, ℕ, zero, suc, ◌+◌, ◌<◌, ◌≤◌, Bool, true, false, cond, not, ◌&&◌, ◌||◌, leb, List, length, ◌≢◌, nat_le, nat_lt, refl}
 use Rattle.std.proofs.Common.{sym, ap, subst, ◌∙◌, ⊎_elim, arith, add-one}
+use Rattle.std.proofs.Math.Bool.{and-true}
 use Rattle.std.proofs.lemmas.Bool.{cases_Bool, cases_lt, lt-ltb, le-ltb, le-leb, lt-leb, leb-true, leb-false, and_parts, both_ways, not-true, and_right}
 use Rattle.facts.specs.Words.{has, union, subset}
 use Rattle.facts.proofs.Sets.{has_union}
@@ -176,11 +177,7 @@ adder_same acts s (suc i) f h = first_same _ _ (length acts) (λ k l. same k l (
         (λ a. absurd (both_ways (has (layer acts s (suc i)) f) h (grown_has acts (layer acts s i) (length acts) k f l e a)))
         (λ a. and_right _ _ a ∙ sym (and_right _ _ a))
         (cases_Bool (has (act acts k).add.words f))
-    same k l false e = ap (λ (x : Bool). x && has (act acts k).add.words f) (sym (and_true (applicable (act acts k) (layer acts s (suc i)))) ∙ ap (λ (x : Bool). applicable (act acts k) (layer acts s (suc i)) && not x) (sym e))
-      where
-        and_true : (x : Bool) → (x && true) ≡ x
-        and_true true = refl
-        and_true false = refl
+    same k l false e = ap (λ (x : Bool). x && has (act acts k).add.words f) (sym (and-true (applicable (act acts k) (layer acts s (suc i)))) ∙ ap (λ (x : Bool). applicable (act acts k) (layer acts s (suc i)) && not x) (sym e))
 
 -- one fact, one layer more
 pub record Knows (acts : List Action) (s : State) (i f : ℕ) (n : FactNode) : Type 0 where

@@ -1,6 +1,7 @@
 -- The table follows extraction.
 use Rattle.std.specs.Prelude.{◌≡◌, ℕ, suc, ◌+◌, ◌-◌, ◌<◌, ◌≤◌, Bool, true, false, cond, not, ◌&&◌, ◌||◌, ltb, leb, List, [], length, ◌==◌, nat_eq, nat_le, nat_lt, refl}
 use Rattle.std.proofs.Common.{sym, ap, subst, ◌∙◌, ⊎_elim, arith, add-zero, add_assoc, add-one}
+use Rattle.std.proofs.Math.Bool.{or-false, or-true}
 use Rattle.std.proofs.lemmas.Bool.{cases_order, cases_lt, lt-ltb, le-ltb, le-leb, lt-leb, eq-eqb, ne_eqb, and_parts}
 use Rattle.facts.specs.Words.{has, without}
 use Rattle.facts.proofs.Sets.{has_union, has_without, has_past}
@@ -11,7 +12,7 @@ use Rattle.relaxed.specs.declared.graph.FactNode.{FactNode}
 use Rattle.relaxed.specs.Layers.{layer, new_fact}
 use Rattle.relaxed.specs.Extract.{Marks, adder, chosen, visit, pass, lower, treated}
 use Rattle.relaxed.specs.Nodes.{node, Each, selected, due}
-use Rattle.relaxed.specs.Graph.{Graph, Fresh, Shows, Treats, Descends, Extracts}
+use Rattle.relaxed.specs.Graph.{Graph, Fresh, Shows, Treats, Descends}
 
 -- tests
 above : (i x : ℕ) → nat_lt i x ≡ not (nat_le x i)
@@ -46,16 +47,8 @@ graph_selected acts s top i a ns ns' e g = record {
 }
 
 either : (b : Bool) (i x j : ℕ) → i ≤ j → nat_le (cond b i x) j ≡ (nat_le x j || b)
-either true i x j l = le-leb i j l ∙ sym (or_true (nat_le x j))
-  where
-    or_true : (y : Bool) → (y || true) ≡ true
-    or_true true = refl
-    or_true false = refl
-either false i x j l = sym (or_false (nat_le x j))
-  where
-    or_false : (y : Bool) → (y || false) ≡ y
-    or_false true = refl
-    or_false false = refl
+either true i x j l = le-leb i j l ∙ sym (or-true (nat_le x j))
+either false i x j l = sym (or-false (nat_le x j))
 
 low_still : (b : Bool) (i x : ℕ) → i ≤ x → i ≤ cond b i x
 low_still true i x l = omega arith
@@ -103,16 +96,6 @@ of_level i n d = (and_parts _ _ (and_parts _ _ d).1).0
 new_here : (acts : List Action) (s : State) (top i f : ℕ) (ns : List FactNode) → Graph acts s top ns → i < top → f < 256 → due i (node ns f) ≡ true → new_fact acts s i f ≡ true
 new_here acts s top i f ns g l q d =
     sym (level_is (node ns f).level i ∙ ap (λ (y : Bool). y && not (nat_le (node ns f).level i)) (g.level f (suc i) q (omega arith)) ∙ ap (λ (y : Bool). has (layer acts s (suc i)) f && not y) (g.level f i q (omega arith))) ∙ of_level i (node ns f) d
-
-pub treat_none : (acts : List Action) (i f : ℕ) (ns : List FactNode) → f < 256 → due i (node ns f) ≡ true → length acts ≤ (node ns f).adder → Treats acts i (λ s m. visit acts s i f m) ns ns 0
-treat_none acts i f ns q d past = record {
-  graph = λ s top g. g;
-  shows = λ s top m g l w. absurd (no s top g l);
-  count = λ s top m g l w. absurd (no s top g l);
-}
-  where
-    no : (s : State) (top : ℕ) → Graph acts s top ns → i < top → ⊥
-    no s top g l = let r = g.by f i q l (new_here acts s top i f ns g l q d) in let a = r.0 in let b = r.1 in omega arith
 
 pub treat_some : (acts : List Action) (i f k : ℕ) (a : Action) (ns ns' : List FactNode) → f < 256 → due i (node ns f) ≡ true → k ≡ (node ns f).adder → k < length acts → a ≡ act acts k → Each (selected a i) ns ns' → Treats acts i (λ s m. visit acts s i f m) ns ns' 1
 treat_some acts i f k a ns ns' q d ek lk ea e = record {
@@ -187,9 +170,10 @@ descend_more acts top n r r' ns ns' ns'' l a b =
           ∙ ap (λ (x : Marks). x.count) (sym (is s goal));
     }
 
-pub descend_all : (acts : List Action) (top n r : ℕ) (ns ns' : List FactNode) → n ≡ top → Descends acts top n ns ns' r → Extracts acts top top ns ns' r
-descend_all acts top n r ns ns' e a = record {
-  graph = a.graph;
-  wanted = λ s goal g h f q. (a.shows s goal g h).wanted f q ∙ ap (λ (x : ℕ). has (treated acts s goal top x).wanted f) e;
-  count = λ s goal g h. a.count s goal g h ∙ ap (λ (x : ℕ). (treated acts s goal top x).count) e;
-}
+-- the same for the layer above b - 1, where b counts down
+pub descend_down : (acts : List Action) (top b r r' : ℕ) (ns ns' ns'' : List FactNode) → 0 < b → b ≤ top → Descends acts top (top - b) ns ns' r → Treats acts (b - 1) (λ s m. pass acts s (b - 1) 256 m) ns' ns'' r' → Descends acts top (top - (b - 1)) ns ns'' (r + r')
+descend_down acts top b r r' ns ns' ns'' p l a t =
+    let e : (top - b) + 1 ≡ top - (b - 1) = omega arith in
+    let d : b - 1 ≡ top - ((top - b) + 1) = omega arith in
+    subst (λ (x : ℕ). Descends acts top x ns ns'' (r + r')) e
+    (descend_more acts top (top - b) r r' ns ns' ns'' (omega arith) a (subst (λ (x : ℕ). Treats acts x (λ s m. pass acts s x 256 m) ns' ns'' r') d t))

@@ -21,7 +21,8 @@ use Rattle.relaxed.specs.Growing.{last_passes, grown_keeps, layer_none, layer_su
 use Rattle.relaxed.proofs.Answering.{plan_never}
 use Rattle.relaxed.specs.Firsts.{first_le}
 use Rattle.relaxed.proofs.Building.{first_same}
-use Rattle.relaxed.specs.Lawful.{never_is, no_plan, pre_within, steps_are, subset_below}
+use Rattle.heuristic.specs.Words.{pre_within, subset_below}
+use Rattle.relaxed.specs.Lawful.{never_is, no_plan, steps_are}
 
 -- layers do not see deletes
 grown_same : (acts : List Action) (base : State) (n : ℕ) → grown (map without_deletes acts) base n ≡ grown acts base n

@@ -1,8 +1,7 @@
 -- Making one layer.
-use Rattle.std.proofs.Common.{◌≡◌, ℕ, ◌+◌, Bool, true, false, cond, not, ◌&&◌, List, sym, refl, ap, ◌∙◌, add-one}
-use Rattle.facts.specs.Words.{subset, union}
+use Rattle.std.proofs.Common.{◌≡◌, ℕ, ◌+◌, Bool, true, false, cond, List, sym, refl, ap, ◌∙◌, add-one}
 use Rattle.strips.specs.declared.action.Action.{Action}
-use Rattle.strips.specs.Semantics.{State, applicable}
+use Rattle.strips.specs.Semantics.{State}
 use Rattle.strips.specs.Sound.{act}
 use Rattle.relaxed.specs.declared.graph.FactNode.{FactNode}
 use Rattle.relaxed.specs.Layers.{brings, grown, with_adds}
@@ -43,18 +42,3 @@ offered_then acts base ws i k a ns ns' e p q =
 pub offered_else : (acts : List Action) (base ws : State) (i k : ℕ) (ns : List FactNode) → brings acts base ws k ≡ false → Each (offered acts base ws i k) ns ns
 offered_else acts base ws i k ns p =
     record { at = λ f m. sym (ap (λ (b : Bool). cond b (brought (act acts k).add.words i k f (node ns f)) (node ns f)) p) }
-
-pub with_then : (acts : List Action) (base : State) (k : ℕ) (a : Action) (ws r : State) → a ≡ act acts k → brings acts base ws k ≡ true → r ≡ union ws a.add.words → r ≡ with_adds acts base k ws
-with_then acts base k a ws r e p q =
-    q ∙ ap (λ (x : Action). union ws x.add.words) e ∙ sym (ap (λ (b : Bool). cond b (union ws (act acts k).add.words) ws) p)
-
-pub with_else : (acts : List Action) (base : State) (k : ℕ) (ws : State) → brings acts base ws k ≡ false → ws ≡ with_adds acts base k ws
-with_else acts base k ws p = sym (ap (λ (b : Bool). cond b (union ws (act acts k).add.words) ws) p)
-
--- the test as the code makes it
-pub brings_is : (acts : List Action) (base ws : State) (k : ℕ) (a : Action) (x y : Bool) → a ≡ act acts k → x ≡ subset a.add.words ws → y ≡ applicable a base → brings acts base ws k ≡ (y && not x)
-brings_is acts base ws k a x y e p q =
-    sym (ap (λ (b : Bool). y && not b) p ∙ ap (λ (b : Bool). b && not (subset a.add.words ws)) q ∙ ap (λ (c : Action). applicable c base && not (subset c.add.words ws)) e)
-
-pub joined_all : (acts : List Action) (base : State) (i k n : ℕ) (ns ns' : List FactNode) → k ≡ n → Each (joined acts base i k) ns ns' → Each (joined acts base i n) ns ns'
-joined_all acts base i k n ns ns' e p = record { at = λ f l. p.at f l ∙ ap (λ (x : ℕ). joined acts base i x f (node ns f)) e }

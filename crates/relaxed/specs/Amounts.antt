@@ -1,5 +1,5 @@
 -- A relaxed plan has at most 256 actions.
-use Rattle.std.specs.Prelude.{◌≡◌, ℕ, zero, suc, ◌+◌, ◌-◌, ◌<◌, ◌≤◌, Bool, true, false, cond, not, ◌&&◌, ◌⊎◌, List, length, ◌≢◌, refl}
+use Rattle.std.specs.Prelude.{◌≡◌, ℕ, zero, suc, ◌+◌, ◌-◌, ◌<◌, ◌≤◌, Bool, true, false, cond, if◌then◌else◌, not, ◌&&◌, ◌⊎◌, List, length, ◌≢◌, refl}
 use Rattle.std.proofs.Common.{ap, subst, ◌∙◌, arith, ⊎_elim, inl, inr}
 use Rattle.std.proofs.lemmas.Bool.{both_ways, cases_lt, cases_eq}
 use Rattle.facts.specs.Words.{has}
@@ -13,7 +13,7 @@ use Rattle.relaxed.specs.Growing.{layer_suc, grown_keeps}
 -- how many numbers below n pass
 pub amount : (ℕ → Bool) → ℕ → ℕ
 amount p zero = 0
-amount p (suc n) = amount p n + cond (p n) 1 0
+amount p (suc n) = amount p n + (if p n then 1 else 0)
 
 at_most_one : (b : Bool) → cond b 1 0 ≤ 1
 at_most_one true = omega arith

@@ -1,5 +1,5 @@
 -- Extraction of a relaxed plan from the layers.
-use Rattle.std.specs.Prelude.{ℕ, zero, suc, ◌+◌, ◌-◌, cond, not, ◌&&◌, List, [], length}
+use Rattle.std.specs.Prelude.{ℕ, zero, suc, ◌+◌, ◌-◌, if◌then◌else◌, not, ◌&&◌, List, [], length}
 use Rattle.facts.specs.Words.{has, union, without}
 use Rattle.strips.specs.declared.action.Action.{Action}
 use Rattle.strips.specs.Semantics.{State}
@@ -23,7 +23,7 @@ chosen a m = record { wanted = union m.wanted (without a.pre.words m.below); her
 -- fact f at layer i + 1: where it is wanted, of this level, and not marked true here, an action that adds it is selected
 abbrev pub visit : List Action → State → ℕ → ℕ → Marks → Marks
 visit acts s i f m =
-    cond (has m.wanted f && (new_fact acts s i f && not (has m.here f))) (chosen (act acts (adder acts s i f)) m) m
+    if has m.wanted f && (new_fact acts s i f && not (has m.here f)) then chosen (act acts (adder acts s i f)) m else m
 
 -- the first n facts at layer i + 1, in rising number
 unfoldable pub pass : List Action → State → ℕ → ℕ → Marks → Marks

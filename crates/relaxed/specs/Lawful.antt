@@ -1,10 +1,9 @@
 -- The relaxed plan keeps the laws.
-use Rattle.std.specs.Prelude.{◌≡◌, ℕ, zero, suc, ◌+◌, ◌-◌, ◌/◌, ◌%◌, ◌^◌, ◌<◌, ◌≤◌, Bool, true, false, cond, not, ◌&&◌, List, [], length, ◌≢◌, nat_eq, nat_lt, slice_index, refl}
+use Rattle.std.specs.Prelude.{◌≡◌, ℕ, zero, suc, ◌+◌, ◌-◌, ◌<◌, ◌≤◌, Bool, true, false, cond, not, ◌&&◌, List, [], length, ◌≢◌, nat_lt, refl}
 use Rattle.std.proofs.Common.{sym, ap, ◌∙◌, ⊎_elim, arith}
-use Rattle.std.proofs.Math.Nat.{zero-div}
 use Rattle.std.proofs.lemmas.Bool.{cases_Bool, cases_lt, and_parts, and_from, both_ways, or_cases, not_from_false, ltb-true, ltb-false, lt-ltb}
 use Rattle.facts.specs.Words.{has, subset, without}
-use Rattle.facts.proofs.Sets.{subset_has, subset_from, word_from_has, has_union, has_without, has_past}
+use Rattle.facts.proofs.Sets.{subset_has, has_union, has_without, has_past}
 use Rattle.strips.specs.declared.action.Action.{Action}
 use Rattle.strips.specs.Semantics.{State, applicable, result, Run, stop, step, IsPlan}
 use Rattle.strips.specs.Sound.{within, act}
@@ -12,28 +11,13 @@ use Rattle.strips.proofs.Runs.{result_within}
 use Rattle.heuristic.specs.declared.estimate.Estimate.TheVariants.{Steps, Never}
 use Rattle.heuristic.specs.Useful.{useful}
 use Rattle.heuristic.specs.Laws.{Laws, Asked}
-use Rattle.heuristic.specs.Words.{within_small, within_few}
+use Rattle.heuristic.specs.Words.{pre_within, steps_same, subset_below}
 use Rattle.relaxed.specs.Layers.{layer, new_fact}
 use Rattle.relaxed.specs.Extract.{Marks, adder, chosen, pass, lower, treated, extracted}
 use Rattle.relaxed.specs.Plan.{last, relaxed_plan, helpful}
 use Rattle.relaxed.specs.Firsts.{first_before}
 use Rattle.relaxed.specs.Growing.{layer_none, layer_suc, grown_has, last_at, last_passes}
 use Rattle.relaxed.specs.Amounts.{few_actions, amount, amount_none, repeats, lacking, grows}
-
--- sets within at most 256 facts
-no_word : (ws : State) (f : ℕ) → slice_index ws (f / 64) ≡ 0 → has ws f ≡ false
-unfolding has
-no_word ws f e = ap (λ (w : ℕ). nat_eq (w / 2 ^ (f % 64) % 2) 1) e ∙ ap (λ (w : ℕ). nat_eq (w % 2) 1) (zero-div (2 ^ (f % 64)))
-
-past : (facts ws : State) → length facts ≤ 4 → subset ws facts ≡ true → (f : ℕ) → 256 ≤ f → has ws f ≡ false
-past facts ws few e f l = no_word ws f (within_few facts ws 4 few e (f / 64) (omega arith))
-
-pub subset_below : (facts xs ys : State) → length facts ≤ 4 → ((k : ℕ) → slice_index facts k < 2 ^ 64) → subset xs facts ≡ true → ((f : ℕ) → f < 256 → has xs f ≡ true → has ys f ≡ true) → subset xs ys ≡ true
-subset_below facts xs ys few small e h =
-    subset_from xs ys (λ k l. word_from_has xs ys k (within_small facts xs small e k) (λ f y. ⊎_elim (λ m. h f m y) (λ m. absurd (both_ways (has xs f) (past facts xs few e f m) y)) (cases_lt f 256)))
-
-steps_same : (m n : ℕ) → Steps m ≡ Steps n → m ≡ n
-steps_same m n e = cc
 
 never_steps : (n : ℕ) → Never ≢ Steps n
 never_steps n e = let z : ◌≡◌ {A = ℕ} 0 1 = cc in omega arith
@@ -66,10 +50,6 @@ unfolding last
 last_before acts goal s j l = first_before (λ i. subset goal (layer acts s i)) 257 j l
 
 -- never: no plan
-pub pre_within : (facts : State) (a : Action) → within facts a ≡ true → subset a.pre.words facts ≡ true
-unfolding within
-pre_within facts a e = (and_parts _ _ e).0
-
 stays : (facts : State) (acts : List Action) (goal s u t : State) (i : ℕ) (ks : List ℕ) → Asked facts acts goal s → ((f : ℕ) → f < 256 → new_fact acts s i f ≡ false) → subset u facts ≡ true → ((f : ℕ) → f < 256 → has u f ≡ true → has (layer acts s i) f ≡ true) → Run acts u ks t → (f : ℕ) → f < 256 → has t f ≡ true → has (layer acts s i) f ≡ true
 stays facts acts goal s u t i ks q none inside h stop = h
 stays facts acts goal s u t i ks q none inside h (step {k = k} {ks = ls} lk p r) =

@@ -1,5 +1,5 @@
 -- The layers of the relaxed planning graph, and the levels of facts and actions.
-use Rattle.std.specs.Prelude.{ℕ, zero, suc, Bool, cond, not, ◌&&◌, List, length, nat_lt}
+use Rattle.std.specs.Prelude.{ℕ, zero, suc, Bool, if◌then◌else◌, not, ◌&&◌, List, length, nat_lt}
 use Rattle.facts.specs.Words.{has, union, subset}
 use Rattle.strips.specs.declared.action.Action.{Action}
 use Rattle.strips.specs.Semantics.{State, applicable}
@@ -11,7 +11,7 @@ brings acts base ws k = applicable (act acts k) base && not (subset (act acts k)
 
 -- the facts, with what action k brings
 abbrev pub with_adds : List Action → State → ℕ → State → State
-with_adds acts base k ws = cond (brings acts base ws k) (union ws (act acts k).add.words) ws
+with_adds acts base k ws = if brings acts base ws k then union ws (act acts k).add.words else ws
 
 -- the facts of `base`, with the adds of those of the first n actions whose preconditions lie in `base`
 unfoldable pub grown : List Action → State → ℕ → State
@@ -26,7 +26,7 @@ layer acts s (suc i) = grown acts (layer acts s i) (length acts)
 -- the least number below n that passes the test; n where none does
 unfoldable pub first : (ℕ → Bool) → ℕ → ℕ
 first p zero = zero
-first p (suc n) = cond (nat_lt (first p n) n) (first p n) (cond (p n) n (suc n))
+first p (suc n) = if nat_lt (first p n) n then first p n else (if p n then n else suc n)
 
 -- whether the level of a fact is i + 1, its first layer
 abbrev pub new_fact : List Action → State → ℕ → ℕ → Bool

@@ -1,5 +1,5 @@
 -- The relaxed plan estimate.
-use Rattle.std.specs.Prelude.{ℕ, Bool, cond, ◌&&◌, List, nat_lt}
+use Rattle.std.specs.Prelude.{ℕ, Bool, if◌then◌else◌, ◌&&◌, List, nat_lt}
 use Rattle.facts.specs.Words.{common, subset, without}
 use Rattle.strips.specs.declared.action.Action.{Action}
 use Rattle.strips.specs.Semantics.{State}
@@ -16,7 +16,7 @@ last acts goal s = first (λ i. subset goal (layer acts s i)) 257
 unfoldable pub relaxed_plan : List Action → State → State → Estimate
 relaxed_plan acts goal s =
     let top : ℕ = last acts goal s in
-    cond (nat_lt top 257) (Steps (extracted acts s goal top).count) Never
+    if nat_lt top 257 then Steps (extracted acts s goal top).count else Never
 
 -- the facts wanted at level 1
 abbrev pub first_wanted : List Action → State → State → ℕ → State
