@@ -1,6 +1,6 @@
 -- What the estimators say of the worked yards.
 use Rattle.std.specs.Prelude.{◌≡◌, ℕ, zero, suc, ◌*◌, ◌^◌, true, false, List, [], ◌∷◌, ◌++◌, map}
-use Rattle.std.specs.List.{AllByRecursion}
+use Rattle.std.specs.List.{All}
 use Rattle.strips.specs.declared.action.Action.{Action}
 use Rattle.strips.specs.Semantics.{State}
 use Rattle.heuristic.specs.declared.estimate.Estimate.{Estimate}
@@ -61,7 +61,7 @@ rows =
     ∷ []
 
 abbrev pub EveryRow : Type 0
-EveryRow = AllByRecursion (λ r. r.means r.acts r.goal r.state ≡ r.expected) rows
+EveryRow = All (λ r. r.means r.acts r.goal r.state ≡ r.expected) rows
 
 -- of three lifts, only action 2 is helpful at the start
 abbrev pub HelpfulLifts : Type 0

@@ -6,23 +6,36 @@ use std::test::*;
 use strips::Task;
 use weights::Weights;
 
+// A field of a record: record 0 has the task's, each record after it those of an action.
+#[derive(Clone, Copy)]
+enum Field {
+    Initial,
+    Goal,
+    InUse,
+    Pre,
+    Add,
+    Del,
+}
+
+use Field::{Add, Del, Goal, InUse, Initial, Pre};
+
+impl Field {
+    fn place(self) -> usize {
+        match self {
+            Initial | Pre => 0,
+            Goal | Add => 1,
+            InUse | Del => 2,
+        }
+    }
+}
+
 // A fact of a field of a record.
 #[derive(Clone, Copy)]
 struct Bit {
     record: u16,
-    field: u16,
+    field: Field,
     fact: u8,
 }
-
-const INITIAL: u16 = 0;
-
-const GOAL: u16 = 1;
-
-const PRE: u16 = 0;
-
-const ADD: u16 = 1;
-
-const DEL: u16 = 2;
 
 // A yard of some records with all facts in use, and what is said of its initial state.
 #[derive(Drop)]
@@ -36,7 +49,7 @@ struct Yard<'a> {
 }
 
 fn put(file: &mut [u8], bit: Bit) {
-    let at = usize::from(bit.record) * 96 + usize::from(bit.field) * 32 + usize::from(bit.fact) / 8;
+    let at = usize::from(bit.record) * 96 + bit.field.place() * 32 + usize::from(bit.fact) / 8;
     if at < file.len() {
         file[at] |= 1 << (bit.fact % 8);
     }
@@ -45,14 +58,7 @@ fn put(file: &mut [u8], bit: Bit) {
 fn check_yard(rt: &(impl Abort + AllocGlobal), yard: &Yard) -> Result<(), Fail> {
     let mut file = vec![in rt.alloc(); 0u8; usize::from(yard.records) * 96]?;
     for fact in 0..=255 {
-        put(
-            &mut file,
-            Bit {
-                record: 0,
-                field: 2,
-                fact,
-            },
-        );
+        put(&mut file, at(0, InUse, fact));
     }
     for bit in yard.bits {
         put(&mut file, *bit);
@@ -81,7 +87,7 @@ fn check_yard(rt: &(impl Abort + AllocGlobal), yard: &Yard) -> Result<(), Fail> 
     Ok(())
 }
 
-const fn at(record: u16, field: u16, fact: u8) -> Bit {
+const fn at(record: u16, field: Field, fact: u8) -> Bit {
     Bit {
         record,
         field,
@@ -93,13 +99,13 @@ const fn at(record: u16, field: u16, fact: u8) -> Bit {
 #[test]
 fn three_lifts(rt: HostRuntime) -> Result<(), Fail> {
     let bits = [
-        at(0, GOAL, 1),
-        at(0, GOAL, 2),
-        at(1, PRE, 0),
-        at(1, ADD, 1),
-        at(2, PRE, 0),
-        at(2, ADD, 2),
-        at(3, ADD, 0),
+        at(0, Goal, 1),
+        at(0, Goal, 2),
+        at(1, Pre, 0),
+        at(1, Add, 1),
+        at(2, Pre, 0),
+        at(2, Add, 2),
+        at(3, Add, 0),
     ];
     check_yard(
         &rt,
@@ -124,14 +130,14 @@ fn check_key(
     helpful: &[u16],
 ) -> Result<(), Fail> {
     let bits = [
-        at(0, INITIAL, state),
-        at(0, GOAL, 1),
-        at(0, GOAL, 2),
-        at(1, PRE, 0),
-        at(1, ADD, 1),
-        at(1, DEL, 0),
-        at(2, PRE, 0),
-        at(2, ADD, 2),
+        at(0, Initial, state),
+        at(0, Goal, 1),
+        at(0, Goal, 2),
+        at(1, Pre, 0),
+        at(1, Add, 1),
+        at(1, Del, 0),
+        at(2, Pre, 0),
+        at(2, Add, 2),
     ];
     check_yard(
         rt,
@@ -161,11 +167,11 @@ fn key_used_up(rt: HostRuntime) -> Result<(), Fail> {
 #[test]
 fn unreachable_goal(rt: HostRuntime) -> Result<(), Fail> {
     let bits = [
-        at(0, GOAL, 255),
-        at(1, PRE, 255),
-        at(1, ADD, 255),
-        at(0, INITIAL, 0),
-        at(1, DEL, 0),
+        at(0, Goal, 255),
+        at(1, Pre, 255),
+        at(1, Add, 255),
+        at(0, Initial, 0),
+        at(1, Del, 0),
     ];
     check_yard(
         &rt,
@@ -202,7 +208,7 @@ fn one_record_with_a_goal(rt: HostRuntime) -> Result<(), Fail> {
         &rt,
         &Yard {
             records: 1,
-            bits: &[at(0, GOAL, 0)],
+            bits: &[at(0, Goal, 0)],
             relaxed: Estimate::Never,
             weights: Estimate::Never,
             count: Estimate::Steps(1),
@@ -216,16 +222,16 @@ fn one_record_with_a_goal(rt: HostRuntime) -> Result<(), Fail> {
 #[test]
 fn marked_before_their_turn(rt: HostRuntime) -> Result<(), Fail> {
     let bits = [
-        at(0, GOAL, 2),
-        at(0, GOAL, 3),
-        at(1, PRE, 0),
-        at(1, ADD, 1),
-        at(1, ADD, 2),
-        at(2, PRE, 1),
-        at(2, ADD, 0),
-        at(2, ADD, 3),
-        at(3, ADD, 0),
-        at(4, ADD, 1),
+        at(0, Goal, 2),
+        at(0, Goal, 3),
+        at(1, Pre, 0),
+        at(1, Add, 1),
+        at(1, Add, 2),
+        at(2, Pre, 1),
+        at(2, Add, 0),
+        at(2, Add, 3),
+        at(3, Add, 0),
+        at(4, Add, 1),
     ];
     check_yard(
         &rt,
@@ -248,19 +254,19 @@ fn check_ladder(
     weights: u16,
 ) -> Result<(), Fail> {
     let mut bits = Vec::new(rt.alloc());
-    bits.push(at(0, INITIAL, 0))?;
-    bits.push(at(0, INITIAL, 1))?;
+    bits.push(at(0, Initial, 0))?;
+    bits.push(at(0, Initial, 1))?;
     for rung in 0..rungs.min(16) {
         let low = 2 * rung;
         let record = 2 * u16::from(rung) + 1;
         for own in 0..2u8 {
             let here = record + u16::from(own);
-            bits.push(at(here, PRE, low))?;
-            bits.push(at(here, PRE, low + 1))?;
-            bits.push(at(here, ADD, low + 2 + own))?;
+            bits.push(at(here, Pre, low))?;
+            bits.push(at(here, Pre, low + 1))?;
+            bits.push(at(here, Add, low + 2 + own))?;
         }
     }
-    bits.push(at(0, GOAL, 2 * rungs.min(16)))?;
+    bits.push(at(0, Goal, 2 * rungs.min(16)))?;
     check_yard(
         rt,
         &Yard {
