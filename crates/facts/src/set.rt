@@ -25,7 +25,7 @@ impl Number for u8 {
     ghost number = { λ n. n };
 
     fn number(self) -> usize {
-        usize::from(self)
+        u16::from(self).number()
     }
 }
 
