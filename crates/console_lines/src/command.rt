@@ -4,8 +4,6 @@ ghost use Rattle.console_lines.specs.Written.{Written};
 
 use input_lines::{cut, number};
 
-const SPACE: u8 = 32;
-
 // What a line asks for.
 #[derive(Clone, Copy, PartialEq, Eq, Debug)]
 pub enum Command {
@@ -21,11 +19,10 @@ pub enum Command {
 fn plan(rest: &[u8]) -> Option<Command>
     ensures { result ≡ budgets rest.now }
 {
-    let (space, numbers) = rest.split_first()?;
-    if *space != SPACE {
+    let [b' ', numbers @ ..] = rest else {
         return None;
-    }
-    let (hill, fallback) = cut(numbers, SPACE);
+    };
+    let (hill, fallback) = cut(numbers, b' ');
     Some(Command::Plan {
         hill: number(hill)?,
         fallback: number(fallback)?,
@@ -36,7 +33,7 @@ fn plan(rest: &[u8]) -> Option<Command>
 fn letter(meant: Command, rest: &[u8]) -> Option<Command>
     ensures { result ≡ alone meant rest.now }
 {
-    if rest.is_empty() { Some(meant) } else { None }
+    rest.is_empty().then_some(meant)
 }
 
 // The command by its letter.
@@ -53,6 +50,7 @@ fn dispatch(line: &[u8]) -> Option<Command>
 }
 
 // The command that a line is.
+#[tactic(auto, using(crate::proofs::Grammar::long_none, crate::proofs::Grammar::read_written, crate::proofs::Grammar::written_read))]
 pub fn parse(line: &[u8]) -> Option<Command>
     ensures value { result ≡ command line.now }
     ensures written { (c : Command) → result ≡ Some c → Written line.now c }

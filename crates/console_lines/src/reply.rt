@@ -3,7 +3,7 @@ ghost use Rattle.std.specs.Prelude.{Some};
 
 use std::fmt;
 
-// A line that the console prints. Both counts are expansions, of hill-climbing and of the fallback.
+// A line that the console prints. Both counts are expansions, of hill-climbing and of the fallback. A refusal or a cause is the number that is printed, whichever crate refused, so this crate needs none of them.
 #[derive(Clone, Copy, PartialEq, Eq, Debug)]
 pub enum Reply {
     // there is a plan of so many actions

@@ -1,5 +1,5 @@
-use console_lines::{Command, Reply, parse};
-use input_lines::next_line;
+use console_lines::{Command, Expansions, Reply, parse};
+use input_lines::{Lines, next_line, number_of};
 use std::process::Abort;
 use std::test::Fail;
 
@@ -86,19 +86,19 @@ fn says(rt: &(impl Abort + AllocGlobal), reply: Reply, text: &str) -> Result<(),
 
 #[test]
 fn replies(rt: HostRuntime) -> Result<(), Fail> {
-    let (hill, fallback) = (3, 1000000);
+    let expansions = Expansions {
+        hill: 3,
+        fallback: 1000000,
+    };
+    let length = 4095;
     says(
         &rt,
-        Reply::Plan {
-            length: 4095,
-            hill,
-            fallback,
-        },
+        Reply::Plan { length, expansions },
         "plan 4095 3 1000000",
     )?;
-    says(&rt, Reply::NoPlan { hill, fallback }, "none 3 1000000")?;
-    says(&rt, Reply::Spent { hill, fallback }, "spent 3 1000000")?;
-    says(&rt, Reply::Full { hill, fallback }, "full 3 1000000")?;
+    says(&rt, Reply::NoPlan(expansions), "none 3 1000000")?;
+    says(&rt, Reply::Spent(expansions), "spent 3 1000000")?;
+    says(&rt, Reply::Full(expansions), "full 3 1000000")?;
     says(&rt, Reply::Did { action: 511 }, "did 511")?;
     says(&rt, Reply::NotDone { action: 0 }, "not 0")?;
     says(&rt, Reply::Idle, "idle")?;
@@ -134,4 +134,24 @@ fn lines(rt: HostRuntime) {
     begins(&rt, b"\n\n", b"", b"\n");
     begins(&rt, b"S\r\n", b"S\r", b"");
     assert!(rt; next_line(b"").is_none());
+}
+
+#[test]
+fn all_lines(rt: HostRuntime) {
+    let mut lines = Lines(b"S\n\nX");
+    assert!(rt; lines.next() == Some(b"S"));
+    assert!(rt; lines.next() == Some(b""));
+    assert!(rt; lines.next() == Some(b"X"));
+    assert!(rt; lines.next() == None);
+    assert!(rt; Lines(b"S\n").count() == 1);
+}
+
+#[test]
+fn numbers(rt: HostRuntime) {
+    assert!(rt; number_of::<3>(b"007") == Some(7));
+    assert!(rt; number_of::<3>(b"1000") == None);
+    assert!(rt; number_of::<9>(b"999999999") == Some(999999999));
+    assert!(rt; number_of::<20>(b"1000000000") == None);
+    assert!(rt; number_of::<3>(b"") == None);
+    assert!(rt; number_of::<3>(b"1a") == None);
 }
