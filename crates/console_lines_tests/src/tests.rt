@@ -1,4 +1,4 @@
-use console_lines::{Command, Expansions, Reply, parse};
+use console_lines::{Command, Reply, parse};
 use input_lines::{Lines, next_line, number_of};
 use std::process::Abort;
 use std::test::Fail;
@@ -86,19 +86,19 @@ fn says(rt: &(impl Abort + AllocGlobal), reply: Reply, text: &str) -> Result<(),
 
 #[test]
 fn replies(rt: HostRuntime) -> Result<(), Fail> {
-    let expansions = Expansions {
-        hill: 3,
-        fallback: 1000000,
-    };
-    let length = 4095;
+    let (hill, fallback) = (3, 1000000);
     says(
         &rt,
-        Reply::Plan { length, expansions },
+        Reply::Plan {
+            length: 4095,
+            hill,
+            fallback,
+        },
         "plan 4095 3 1000000",
     )?;
-    says(&rt, Reply::NoPlan(expansions), "none 3 1000000")?;
-    says(&rt, Reply::Spent(expansions), "spent 3 1000000")?;
-    says(&rt, Reply::Full(expansions), "full 3 1000000")?;
+    says(&rt, Reply::NoPlan { hill, fallback }, "none 3 1000000")?;
+    says(&rt, Reply::Spent { hill, fallback }, "spent 3 1000000")?;
+    says(&rt, Reply::Full { hill, fallback }, "full 3 1000000")?;
     says(&rt, Reply::Did { action: 511 }, "did 511")?;
     says(&rt, Reply::NotDone { action: 0 }, "not 0")?;
     says(&rt, Reply::Idle, "idle")?;
