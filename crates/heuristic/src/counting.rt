@@ -1,4 +1,3 @@
-ghost use Rattle.std.specs.Prelude.{◌≡◌};
 ghost use Rattle.heuristic.specs.GoalCount.{adds_missing, goals_missing};
 ghost use Rattle.heuristic.specs.GoalLaws.{goal_laws};
 

@@ -1,4 +1,3 @@
-ghost use Rattle.std.specs.Prelude.{◌≡◌};
 ghost use Rattle.weights.specs.Weights.{all_applicable, goal_weight};
 ghost use Rattle.weights.specs.Lawful.{weights_laws};
 
