@@ -2,8 +2,6 @@
 // the same; standard error has the times.
 #![tactic(auto)]
 
-ghost use Rattle.std.specs.Prelude.{◌≤◌, length};
-
 use closed_list::{Row, ScannedStore, Store, enter_all};
 use facts::FactSet;
 use hashed_list::HashedStore;
@@ -31,124 +29,92 @@ fn numbered(number: u16) -> FactSet {
 
 // The rows of so many numbers.
 fn rows_from(heap: Global, first: u16, count: u16) -> Result<Vec<Row>, AllocError> {
-    let mut rows = Vec::new(heap);
-    for i in 0..count {
-        rows.push(Row {
+    (0..count)
+        .map(|i| Row {
             state: numbered(first.wrapping_add(i)),
             parent: 0,
             action: i,
             distance: 1,
             estimate: Estimate::Steps(1),
-        })?;
+        })
+        .collect(heap)
+}
+
+fn count_found<S: Store>(store: &S, rows: &[Row]) -> usize {
+    rows.iter()
+        .filter(|row| store.find(&row.state).is_some())
+        .count()
+}
+
+// Times calls on a table.
+#[derive(Drop)]
+struct Timer<'a> {
+    rt: &'a HostRuntime,
+    table: &'a str,
+}
+
+impl Timer<'_> {
+    // Runs the calls, prints how long one of them took, and gives what came of them.
+    fn time<T: Drop, F: FnOnce() -> T>(&self, what: &str, calls: usize, run: F) -> anyhow::Result<T>
+        requires { F.IsAlwaysCallable run }
+    {
+        let Timer { rt, table } = self;
+        let start = Instant::now(rt)?;
+        let outcome = run();
+        let nanos = start.elapsed(rt)?.as_nanos();
+        eprintln!(rt; "{table} {what}: {} ns", nanos / (calls.max(1) as u128))?;
+        Ok(outcome)
     }
-    Ok(rows)
-}
-
-fn count_found<S: Store>(store: &S, rows: &[Row]) -> usize
-    ensures { result ≤ length rows.now }
-{
-    let mut found = 0;
-    for row in rows {
-        if store.find(&row.state).is_some() {
-            found += 1;
-        }
-    }
-    found
-}
-
-// Prints the time of one of so many calls.
-fn report(
-    rt: &HostRuntime,
-    table: &str,
-    what: &str,
-    start: Instant,
-    calls: usize,
-) -> anyhow::Result<()> {
-    let nanos = start.elapsed(rt)?.as_nanos();
-    eprintln!(rt; "{table} {what}: {} ns", nanos / (calls.max(1) as u128))?;
-    Ok(())
-}
-
-// How many rows are entered, where nothing was.
-fn time_enter<S: Store>(
-    rt: &HostRuntime,
-    table: &str,
-    store: &mut S,
-    rows: &[Row],
-) -> anyhow::Result<usize> {
-    store.clear();
-    let start = Instant::now(rt)?;
-    let entered = enter_all(store, rows);
-    report(rt, table, "enter", start, rows.len())?;
-    Ok(entered)
-}
-
-// How many rows are found.
-fn time_find<S: Store>(
-    rt: &HostRuntime,
-    table: &str,
-    what: &str,
-    store: &S,
-    rows: &[Row],
-) -> anyhow::Result<usize> {
-    let start = Instant::now(rt)?;
-    let found = count_found(store, rows);
-    report(rt, table, what, start, rows.len())?;
-    Ok(found)
-}
-
-// How many rows are left.
-fn time_clear<S: Store>(
-    rt: &HostRuntime,
-    table: &str,
-    what: &str,
-    store: &mut S,
-) -> anyhow::Result<usize> {
-    let start = Instant::now(rt)?;
-    store.clear();
-    report(rt, table, what, start, 1)?;
-    Ok(store.count())
 }
 
 fn run_store<S: Store>(rt: &HostRuntime, table: &str, store: &mut S) -> anyhow::Result<()> {
     let rows = rows_from(rt.alloc(), 0, ROWS)?;
     let strangers = rows_from(rt.alloc(), ROWS, ROWS)?;
     let few = rows_from(rt.alloc(), 0, FEW)?;
+    let timer = Timer { rt, table };
     // The first round finds the memory cold.
     for _ in 0..2 {
-        let entered = time_enter(rt, table, store, &rows)?;
-        let found = time_find(rt, table, "find", store, &rows)?;
-        let wrong = time_find(rt, table, "find in vain", store, &strangers)?;
-        let left = time_clear(rt, table, "clear when full", store)?;
+        store.clear();
+        let entered = timer.time("enter", rows.len(), || enter_all(store, &rows))?;
+        let found = timer.time("find", rows.len(), || count_found(store, &rows))?;
+        let wrong = timer.time("find in vain", strangers.len(), || {
+            count_found(store, &strangers)
+        })?;
+        timer.time("clear when full", 1, || store.clear())?;
+        let left = store.count();
         println!(rt;
             "{table}: {entered} entered, {found} found, {wrong} found in vain, {left} left"
         )?;
     }
     enter_all(store, &few);
-    let left = time_clear(rt, table, "clear with few rows", store)?;
-    println!(rt; "{table}: {left} left of few")?;
+    timer.time("clear with few rows", 1, || store.clear())?;
+    println!(rt; "{table}: {} left of few", store.count())?;
     Ok(())
 }
 
 fn run_frontier(rt: &HostRuntime) -> anyhow::Result<()> {
-    let mut entries = Vec::new(rt.alloc());
-    for row in 0..ROWS {
-        let mixed = row.wrapping_mul(40503);
-        entries.push(Entry {
-            row,
-            estimate: mixed & 0xff,
-            distance: mixed >> 8,
-        })?;
-    }
+    let entries: Vec<Entry> = (0..ROWS)
+        .map(|row| {
+            let mixed = row.wrapping_mul(40503);
+            Entry {
+                row,
+                estimate: mixed & 0xff,
+                distance: mixed >> 8,
+            }
+        })
+        .collect(rt.alloc())?;
     let mut frontier = WeightedFrontier::new(rt.alloc(), entries.len())?;
-    let start = Instant::now(rt)?;
-    let put = fill(&mut frontier, &entries);
-    report(rt, "weighted", "put", start, entries.len())?;
-    let start = Instant::now(rt)?;
-    let taken = drain(rt.alloc(), &mut frontier)?.len();
-    report(rt, "weighted", "take", start, entries.len())?;
-    let left = frontier.count();
-    println!(rt; "weighted: {put} put, {taken} taken, {left} left")?;
+    let timer = Timer {
+        rt,
+        table: "weighted",
+    };
+    let put = timer.time("put", entries.len(), || fill(&mut frontier, &entries))?;
+    let taken = timer.time("take", entries.len(), || drain(rt.alloc(), &mut frontier))??;
+    println!(rt;
+        "weighted: {put} put, {} taken, {} left",
+        taken.len(),
+        frontier.count()
+    )?;
     Ok(())
 }
 

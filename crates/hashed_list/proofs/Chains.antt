@@ -1,6 +1,7 @@
 -- Going down a bucket, adding a row to it, and emptying the buckets.
-use Rattle.std.proofs.Common.{◌≡◌, ℕ, ◌+◌, ◌<◌, ◌≤◌, List, [], ◌∷◌, ◌++◌, length, get_or, set, Some, None, Option, sym, refl, ap, ◌∙◌, subst, inl, inr, arith}
+use Rattle.std.proofs.Common.{◌≡◌, ℕ, true, nat_eq, ◌+◌, ◌<◌, ◌≤◌, List, [], ◌∷◌, ◌++◌, length, get_or, set, Some, None, Option, sym, refl, ap, ◌∙◌, subst, inl, inr, arith}
 use native.Mathlib.Decide.{dec_lt}
+use Rattle.std.specs.Cmp.Lexicographic.{pointwise, same_text}
 use Rattle.std.proofs.lemmas.Bool.{cases_eq}
 use Rattle.std.proofs.lemmas.List.{get_or-set_same, get_or-set_other, get_or_append_left, get_or_push, get_or_past, get_or_read, get_or-map}
 use Rattle.std.proofs.lemmas.Nat.{and_le_r}
@@ -36,8 +37,14 @@ module _ (entries read : List (Linked (Option ℕ))) (i j : ℕ) (d : Linked (Op
   pub entry_row : (get_or read j d).row ≡ row (rows_of entries) i
   entry_row = ap (λ e. e.row) entry_is ∙ sym (row_at entries i d (omega (arith, lt, length_rows entries)))
 
+  pub entry_found : (s : State) → true ≡ pointwise nat_eq (get_or read j d).row.state.words s → (row (rows_of entries) i).state.words ≡ s
+  entry_found s told = sym (ap (λ r. r.state.words) entry_row) ∙ same_text _ _ told
+
   pub entry_link : (get_or read j d).link ≡ get_or (links_of entries) i None
   entry_link = ap (λ e. e.link) entry_is ∙ sym (get_or-map (λ e. e.link) entries i d None (omega (arith, lt, length_rows entries)))
+
+pub entry_bucket : (mask : ℕ) (entries : List (Linked (Option ℕ))) (i b : ℕ) (d : Linked (Option ℕ)) → i < length entries → b ≡ bucket mask (get_or entries i d).row.state.words → b ≡ bucket_of mask (rows_of entries) i
+entry_bucket mask entries i b d lt is = is ∙ ap (λ r. bucket mask r.state.words) (sym (row_at entries i d lt))
 
 module _ (mask : ℕ) (rows : List Row) (s : State) where
   pub standing_at : (at : Option ℕ) (i : ℕ) → Standing mask rows s at → at ≡ Some i → i < length rows

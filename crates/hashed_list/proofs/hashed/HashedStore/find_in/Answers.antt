@@ -1,7 +1,7 @@
-use Rattle.std.proofs.Common.{◌≡◌, ◌+◌, length, vec_items, sym, ap, ◌∙◌, arith}
-use Rattle.std.specs.Cmp.Lexicographic.{same_text, other_text}
+use Rattle.std.proofs.Common.{◌≡◌, ◌+◌, length, vec_items, ap, ◌∙◌, arith, rules}
+use Rattle.std.specs.Cmp.Lexicographic.{other_text}
 use Rattle.closed_list.proofs.LinkedRows.{length_rows}
-use Rattle.hashed_list.proofs.Chains.{bucket_within, entry_link, entry_row, standing_at, standing_found, standing_first, standing_next, standing_lower}
+use Rattle.hashed_list.proofs.Chains.{bucket_within, entry_found, entry_link, entry_row, standing_at, standing_found, standing_first, standing_next, standing_lower}
 use Rattle.hashed_list.proofs.hashed.HashedStore.find_in.Goals as goal
 
 pub index-at-requires : goal.index-at-requires
@@ -21,8 +21,10 @@ bounds-entries-from c =
 pub returns-then-eq : goal.returns-then-eq
 returns-then-eq c =
     let lt = standing_at _ _ _ _ _ c.loop-at.invariant c.in-Some.is in
-    let row = entry_row _ _ _ _ _ c.entries-entries.ensures.value c.from.ensures lt in
-    record { found = standing_found _ _ _ _ _ c.loop-at.invariant c.in-Some.is (sym (ap (λ r. r.state.words) row) ∙ same_text _ _ c.if-eq.ensures) }
+    let entries = c.entries-entries.ensures.value in
+    let number = c.from.ensures in
+    let told = c.if-eq.ensures in
+    record { found = standing_found _ _ _ _ _ c.loop-at.invariant c.in-Some.is (search (rules, entry_found, told)) }
 
 pub loop-at-smaller : goal.loop-at-smaller
 loop-at-smaller c =

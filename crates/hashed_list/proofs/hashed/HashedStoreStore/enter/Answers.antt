@@ -26,12 +26,11 @@ invariant_of-self-2 c =
     let links = ap links_of pushed.2 ∙ links_push entries _ in
     let is = c.bucket-bucket.ensures.value in
     let wide : length (vec_items self.heads) ≡ self.mask + 1 = omega arith in
-    let count : c.in_ok-number.number ≡ length (rows_of entries) = omega (arith, pushed.1, length_rows entries) in
     let long : length (links_of entries) ≡ length (rows_of entries) = omega (arith, length_rows entries, length_links entries) in
     let new = absent_unfound _ _ _ c.if-is_some.ensures c.find_in.ensures.found in
     record {
       wide = self.wide;
-      latest_of_bucket = heads_pushed _ _ _ _ _ _ _ rows self.latest_of_bucket is count wide;
+      latest_of_bucket = heads_pushed _ _ _ _ _ _ _ rows self.latest_of_bucket is (omega (arith, pushed.1, length_rows entries)) wide;
       latest_before = links_pushed _ _ _ _ _ _ _ _ _ rows links self.latest_of_bucket self.latest_before is wide c.index.ensures long;
       different = different_pushed _ _ _ _ _ self.different new c.push.ensures.change;
     }
