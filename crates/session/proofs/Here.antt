@@ -7,9 +7,9 @@ use Rattle.engine.specs.Generation.{posed}
 use Rattle.engine.proofs.Decided.{answers_decided}
 use Rattle.session.specs.Account.{holds}
 use Rattle.session.specs.Promise.{Sound}
-use Rattle.session.specs.Standing.{account}
+use Rattle.session.specs.Standing.{Stands, account}
 use Rattle.session.specs.declared.session.Session.{Session}
-use Rattle.session.proofs.Laws.{Right, acts_of, behind_good}
+use Rattle.session.proofs.Laws.{Right, acts_of, behind_good, sound}
 use Rattle.session.proofs.Plans.{Leads, leads_plan, leads_prop, plan_leads}
 
 -- that a list leads to the goals has one proof at most
@@ -20,10 +20,13 @@ module _ (s : Session) where
   none_here : (account s).held ≡ holds none → (ks : List ℕ) → Leads (acts_of s.task.now) s.goals.words s.state.words ks → ⊥
   none_here e ks h = ∥∥₁_elim s.history ⊥_prop (λ b. subst (Right (acts_of s.task.now) s.goals.words s.state.words) e (behind_good b).right ks h)
 
-  pub sound_here : Sound s.task.now s.number (account s)
+  sound_here : Sound s.task.now s.number (account s)
   sound_here =
       record {
         plan_runs = λ ks e. leads_plan (acts_of s.task.now) s.goals.words s.state.words ks (leads_here ks e);
         none_exists = λ e ks h. none_here e ks (plan_leads (acts_of s.task.now) s.goals.words s.state.words ks h);
-        decides = λ q o m r most le le'. answers_decided (posed q.estimate q.prefers (acts_of s.task.now) s.goals.words q.limits.store) q.limits.hill q.limits.fallback s.state.words o.answer o.hill o.fallback m r.1.may most le le';
+        decides = λ q o m r most le le'. answers_decided (posed q.estimate q.prefers (acts_of s.task.now) s.goals.words q.limits.store) q.limits.budgets.hill q.limits.budgets.fallback s.state.words o.answer o.hill o.fallback m r.1.may most le le';
       }
+
+  pub stands : Stands s
+  stands = record { behind = s.history; every = sound; here = sound_here }

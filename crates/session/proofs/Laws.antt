@@ -13,9 +13,10 @@ use Rattle.engine.specs.Answers.{Answer, Excludes, Plans, plan, none, spent, ful
 use Rattle.engine.specs.Generation.{posed}
 use Rattle.engine.proofs.Right.{answers_none, answers_plans}
 use Rattle.engine.proofs.Decided.{answers_decided}
-use Rattle.session.specs.Account.{Account, Held, any, free, holds, names, remaining, unasked}
-use Rattle.session.specs.Histories.{Asking, Behind, Event, History, May, Outcome, Replied, after, after_order, aim, answers, correct, done, first, issue, moved, not_done, planned, refused, reply, rest, settled}
+use Rattle.session.specs.Account.{Account, Held, any, first, free, holds, names, remaining, unasked}
+use Rattle.session.specs.Histories.{Asking, Behind, Event, History, May, Outcome, Replied, after, after_order, aim, answers, correct, done, issue, moved, not_done, planned, refused, reply, rest, settled}
 use Rattle.session.specs.Promise.{HistoriesSound, Sound}
+use Rattle.session.specs.declared.model.Order.{Order}
 use Rattle.session.proofs.Plans.{Leads, leads_plan, plan_leads}
 
 abbrev pub acts_of : Task → List Action
@@ -56,8 +57,8 @@ answer_right acts g s full p n = tt
 may_right : (t : Task) (a : Account) (q : Asking) (o : Outcome) → Good t a → May t a q o → Right (acts_of t) a.goals a.state (holds o.answer)
 may_right t a q o g m =
     answer_right (acts_of t) a.goals a.state o.answer
-    (answers_plans q.estimate q.prefers m.lawful t.facts.words (acts_of t) a.goals q.limits.store q.limits.hill q.limits.fallback a.state o.answer o.hill o.fallback (asked t a g) m.may)
-    (answers_none q.estimate q.prefers m.lawful t.facts.words (acts_of t) a.goals q.limits.store q.limits.hill q.limits.fallback a.state o.answer o.hill o.fallback (asked t a g) m.may)
+    (answers_plans q.estimate q.prefers m.lawful t.facts.words (acts_of t) a.goals q.limits.store q.limits.budgets.hill q.limits.budgets.fallback a.state o.answer o.hill o.fallback (asked t a g) m.may)
+    (answers_none q.estimate q.prefers m.lawful t.facts.words (acts_of t) a.goals q.limits.store q.limits.budgets.hill q.limits.budgets.fallback a.state o.answer o.hill o.fallback (asked t a g) m.may)
 
 passes : (b : Bool) → answers tt ≡ settled (unless b 6) → b ≡ true
 passes true e = refl
@@ -87,10 +88,10 @@ module _ (t : Task) (g s : State) (k : ℕ) (ks : List ℕ) where
       let lead = subst (Right (acts_of t) g s) e r in
       result_within t.facts.words (act (acts_of t) k) s (t.actions_within k lead.0) i
 
-report_good : (t : Task) (n : ℕ) (s g : State) (h : Held) (o : Option ℕ) (m k : ℕ) → answers tt ≡ settled (unless (names n o m k) 21) → Right (acts_of t) g s h → Fronts h o → subset s t.facts.words ≡ true
+report_good : (t : Task) (n : ℕ) (s g : State) (h : Held) (o : Option ℕ) (q : Order) → answers tt ≡ settled (unless (names n o q) 21) → Right (acts_of t) g s h → Fronts h o → subset s t.facts.words ≡ true
     → Right (acts_of t) g (after_order t o s) (rest h) × (subset (after_order t o s) t.facts.words ≡ true)
-report_good t n s g h None m k e r f i = impossible e
-report_good t n s g h (Some j) m k e r f i = (done_right t g s j f.0 h f.1 r, done_in t g s j f.0 h f.1 r i)
+report_good t n s g h None q e r f i = impossible e
+report_good t n s g h (Some j) q e r f i = (done_right t g s j f.0 h f.1 r, done_in t g s j f.0 h f.1 r i)
 
 pub good_next : (t : Task) (n : ℕ) (a : Account) (e : Event) → Good t a → Replied t n a e → Good t (moved t a e)
 good_next t n a (correct s (refused m)) g r = g
@@ -103,7 +104,7 @@ good_next t n a (issue (refused m)) g r = g
 good_next t n a (issue (answers p)) g r = record { right = g.right; fronts = issue_fronts a.held a.out p _ r; state_in = g.state_in; goals_in = g.goals_in }
 good_next t n a (done p (refused m)) g r = g
 good_next t n a (done p (answers u)) g r =
-    let d = report_good t n a.state a.goals a.held a.out p.session p.action r g.right g.fronts g.state_in in
+    let d = report_good t n a.state a.goals a.held a.out p r g.right g.fronts g.state_in in
     record { right = d.0; fronts = tt; state_in = d.1; goals_in = g.goals_in }
 good_next t n a (not_done p (refused m)) g r = g
 good_next t n a (not_done p (answers u)) g r = record { right = tt; fronts = tt; state_in = g.state_in; goals_in = g.goals_in }
@@ -118,7 +119,7 @@ good_sound t n a g =
     record {
       plan_runs = λ ks e. leads_plan (acts_of t) a.goals a.state ks (subst (Right (acts_of t) a.goals a.state) e g.right);
       none_exists = λ e ks h. subst (Right (acts_of t) a.goals a.state) e g.right ks (plan_leads (acts_of t) a.goals a.state ks h);
-      decides = λ q o m r most le le'. answers_decided (posed q.estimate q.prefers (acts_of t) a.goals q.limits.store) q.limits.hill q.limits.fallback a.state o.answer o.hill o.fallback m r.1.may most le le';
+      decides = λ q o m r most le le'. answers_decided (posed q.estimate q.prefers (acts_of t) a.goals q.limits.store) q.limits.budgets.hill q.limits.budgets.fallback a.state o.answer o.hill o.fallback m r.1.may most le le';
     }
 
 pub sound : HistoriesSound

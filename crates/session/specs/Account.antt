@@ -1,5 +1,5 @@
 -- The account of a session: what it keeps, and the first check that applies to a call.
-use Rattle.std.specs.Prelude.{ℕ, Bool, true, false, ◌&&◌, List, [], ◌∷◌, take, drop, Some, None, Option, ◌==◌, slice_index}
+use Rattle.std.specs.Prelude.{ℕ, Bool, true, false, ◌&&◌, List, [], ◌∷◌, Some, None, Option, ◌==◌}
 use Rattle.std.specs.Option.{option_map}
 use Rattle.facts.specs.Checks.{or_else, unless}
 use Rattle.facts.specs.Words.{subset}
@@ -9,6 +9,7 @@ use Rattle.engine.specs.Answers.{Answer, plan, none, spent, full}
 use Rattle.engine.specs.Checks.{limits, refusal_number}
 use Rattle.session.specs.declared.model.Call.{Call}
 use Rattle.session.specs.declared.model.Call.TheVariants.{Correct, Aim, Plan, Issue, Report}
+use Rattle.session.specs.declared.model.Order.{Order}
 use Rattle.session.specs.declared.model.Phase.{Phase}
 use Rattle.session.specs.declared.model.Phase.TheVariants as phase
 
@@ -32,10 +33,10 @@ abbrev pub free : Option ℕ → Bool
 free None = true
 free (Some k) = false
 
--- the slip (m, k) is that of the order that session n has out
-abbrev pub names : ℕ → Option ℕ → ℕ → ℕ → Bool
-names n None m k = false
-names n (Some j) m k = m == n && k == j
+-- the order is the one that session n has out
+abbrev pub names : ℕ → Option ℕ → Order → Bool
+names n None o = false
+names n (Some k) o = n == o.session && k == o.action
 
 abbrev pub remaining : Held → List ℕ
 remaining unasked = []
@@ -52,11 +53,16 @@ any (k ∷ ks) = true
 abbrev pub ruling : Task → ℕ → Account → Call → Option ℕ
 ruling t n a (Correct s) = or_else (unless (free a.out) 20) (unless (subset s.words t.facts.words) 6)
 ruling t n a (Aim g) = or_else (unless (free a.out) 20) (unless (subset g.words t.facts.words) 6)
-ruling t n a (Plan q) = or_else (unless (free a.out) 20) (option_map refusal_number (limits q.store q.frontier q.hill q.fallback))
+ruling t n a (Plan q) = or_else (unless (free a.out) 20) (option_map refusal_number (limits q.store q.frontier q.budgets.hill q.budgets.fallback))
 ruling t n a Issue = or_else (unless (free a.out) 20) (unless (any (remaining a.held)) 22)
-ruling t n a (Report m k) = unless (names n a.out m k) 21
+ruling t n a (Report o) = unless (names n a.out o) 21
 
--- the account that a session's fields stand for: the plan's actions from place i up to place len remain
+-- the first of some actions
+abbrev pub first : List ℕ → ℕ
+first [] = 0
+first (k ∷ ks) = k
+
+-- the account that a session's fields stand for, by the actions that remain of its plan
 abbrev pub held_as : Phase → List ℕ → Held
 held_as phase.Unasked ks = unasked
 held_as phase.Unsolvable ks = holds none
@@ -73,8 +79,5 @@ out_as phase.Full k = None
 out_as phase.Ready k = None
 out_as phase.Ordered k = Some k
 
-abbrev pub left : List ℕ → ℕ → ℕ → List ℕ
-left p i len = drop i (take len p)
-
-abbrev pub kept : State → State → Phase → List ℕ → ℕ → ℕ → Account
-kept s g f p i len = account_of s g (held_as f (left p i len)) (out_as f (slice_index p i))
+abbrev pub kept : State → State → Phase → List ℕ → Account
+kept s g f ks = account_of s g (held_as f ks) (out_as f (first ks))

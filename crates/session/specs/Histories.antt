@@ -8,9 +8,10 @@ use Rattle.heuristic.specs.Laws.{Laws}
 use Rattle.heuristic.specs.declared.estimate.Estimate.{Estimate}
 use Rattle.engine.specs.Answers.{Answer, MayAnswer, plan, none, spent, full}
 use Rattle.engine.specs.Generation.{posed}
-use Rattle.session.specs.Account.{Account, Held, account_of, holds, remaining, ruling, unasked}
+use Rattle.engine.specs.declared.limits.Limits.{Limits}
+use Rattle.session.specs.Account.{Account, Held, account_of, first, holds, remaining, ruling, unasked}
 use Rattle.session.specs.declared.model.Call.TheVariants.{Correct, Aim, Plan, Issue, Report}
-use Rattle.session.specs.declared.model.Limits.{Limits}
+use Rattle.session.specs.declared.model.Order.{Order}
 
 -- a plan call: what its estimator means, the places of its tables, and its budgets
 pub record Asking : Type 0 where
@@ -23,10 +24,6 @@ pub record Outcome : Type 0 where
   pub answer : Answer
   pub hill : ℕ
   pub fallback : ℕ
-
-pub record Order : Type 0 where
-  pub session : ℕ
-  pub action : ℕ
 
 -- a call is refused under a number, or answers
 pub data Reply (A : Type 0) : Type 0 where
@@ -51,11 +48,7 @@ pub data Event : Type 0 where
   done : Order → Reply (Unit {0}) → Event
   not_done : Order → Reply (Unit {0}) → Event
 
--- the first of some actions, and what is held without it
-abbrev pub first : List ℕ → ℕ
-first [] = 0
-first (k ∷ ks) = k
-
+-- what is held without its first action
 abbrev pub rest : Held → Held
 rest unasked = unasked
 rest (holds (plan [])) = holds (plan [])
@@ -90,7 +83,7 @@ moved t a (not_done p (answers _)) = account_of a.state a.goals unasked None
 -- the answer is one that a plan call may give from the told state to the told goals, by an estimator that keeps its laws
 pub record May (t : Task) (a : Account) (q : Asking) (o : Outcome) : Type 0 where
   pub lawful : Laws q.estimate q.prefers
-  pub may : MayAnswer (posed q.estimate q.prefers (vec_items t.actions) a.goals q.limits.store) q.limits.hill q.limits.fallback a.state o.answer o.hill o.fallback
+  pub may : MayAnswer (posed q.estimate q.prefers (vec_items t.actions) a.goals q.limits.store) q.limits.budgets.hill q.limits.budgets.fallback a.state o.answer o.hill o.fallback
 
 -- the reply is the account's; of an accepted plan call, one that such a call may give
 abbrev pub Replied : Task → ℕ → Account → Event → Type 0
@@ -99,8 +92,8 @@ Replied t n a (aim g r) = r ≡ settled (ruling t n a (Aim (record { words = g }
 Replied t n a (planned q (refused m)) = ruling t n a (Plan q.limits) ≡ Some m
 Replied t n a (planned q (answers o)) = (ruling t n a (Plan q.limits) ≡ None) × May t a q o
 Replied t n a (issue r) = r ≡ reply (ruling t n a Issue) (record { session = n; action = first (remaining a.held) })
-Replied t n a (done p r) = r ≡ settled (ruling t n a (Report p.session p.action))
-Replied t n a (not_done p r) = r ≡ settled (ruling t n a (Report p.session p.action))
+Replied t n a (done p r) = r ≡ settled (ruling t n a (Report p))
+Replied t n a (not_done p r) = r ≡ settled (ruling t n a (Report p))
 
 -- the account after a list of events, the newest first
 abbrev pub after : Task → List Event → Account

@@ -1,4 +1,5 @@
 pub mod Numbers
+pub mod Verdicts
 pub mod Account
 pub mod Histories
 pub mod Promise

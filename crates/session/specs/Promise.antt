@@ -14,7 +14,7 @@ pub record Sound (t : Task) (n : ℕ) (a : Account) : Type 0 where
   pub none_exists : a.held ≡ holds none → (ks : List ℕ) → IsPlan (vec_items t.actions) a.state a.goals ks → ⊥
   -- a plan call accepted next, with places and a fallback budget for all states that the told state reaches, answers plan or none
   pub decides : (q : Asking) (o : Outcome) (m : ℕ) → Replied t n a (planned q (answers o))
-      → AtMost (vec_items t.actions) a.state m → m ≤ q.limits.store → m ≤ q.limits.fallback → Decides o.answer
+      → AtMost (vec_items t.actions) a.state m → m ≤ q.limits.store → m ≤ q.limits.budgets.fallback → Decides o.answer
 
 abbrev pub HistoriesSound : Type 0
 HistoriesSound = (t : Task) (n : ℕ) (es : List Event) → History t n es → Sound t n (after t es)

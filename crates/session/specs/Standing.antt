@@ -4,9 +4,10 @@ use Rattle.engine.specs.Answers.{full, none, plan, said, spent}
 use Rattle.engine.specs.declared.model.Verdict.{Verdict}
 use Rattle.engine.specs.declared.model.Verdict.TheVariants as verdicts
 use Rattle.session.specs.Account.{Account, holds, kept, remaining, unasked}
-use Rattle.session.specs.Histories.{Behind, Event, History, Order, Outcome, Replied, Reply, after, aim, answers, correct, done, issue, moved, not_done, planned, refused}
+use Rattle.session.specs.Histories.{Behind, Event, History, Outcome, Replied, Reply, after, aim, answers, correct, done, issue, moved, not_done, planned, refused}
 use Rattle.session.specs.Numbers.{refusal_number}
 use Rattle.session.specs.Promise.{HistoriesSound, Sound}
+use Rattle.session.specs.declared.model.Order.{Order}
 use Rattle.session.specs.declared.model.Phase.{Phase}
 use Rattle.session.specs.declared.model.Phase.TheVariants as phase
 use Rattle.session.specs.declared.model.Refusal.{Refusal}
@@ -16,18 +17,15 @@ use Rattle.session.specs.declared.session.Returned.{Returned}
 
 -- the account that the session stands for
 abbrev pub account : Session → Account
-account s = kept s.state.words s.goals.words s.phase s.plan s.at s.len
+account s = kept s.state.words s.goals.words s.phase s.plan
 
 -- the reply that a result stands for
 abbrev pub plainly : {A : Type 0} → Result A Refusal → Reply (Unit {0})
 plainly (Ok x) = answers tt
 plainly (Err e) = refused (refusal_number e)
 
-abbrev pub order_of : Slip → Order
-order_of p = record { session = p.session; action = p.action }
-
 abbrev pub handed : Result Slip Refusal → Reply Order
-handed (Ok p) = answers (order_of p)
+handed (Ok p) = answers p.order
 handed (Err e) = refused (refusal_number e)
 
 abbrev pub reported : {A : Type 0} → Result A Returned → Reply (Unit {0})

@@ -2,8 +2,7 @@
 use Rattle.std.specs.Prelude.{◌≡◌, ℕ, ◌*◌, ◌<◌, ◌≤◌, List, ◌++◌, length, take, drop, Ok, Err, vec_items, Result, ◌≢◌}
 use Rattle.strips.specs.declared.problem.Task.{Task}
 use Rattle.planfile.specs.File.{actions_of, file, record_bytes}
-use Rattle.planfile.specs.Reads.{Reads}
-use Rattle.planfile.specs.declared.answer.Reading.TheVariants.{Good}
+use Rattle.planfile.specs.Reads.{ReadsGood}
 use Rattle.engine.specs.Answers.{plan}
 use Rattle.session.specs.Account.{Account, holds}
 use Rattle.session.specs.declared.model.Refusal.{Refusal}
@@ -19,4 +18,4 @@ pub data Writes (t : Task) (a : Account) (before : List ℕ) : Result ℕ Refusa
 -- the first n bytes are accepted by the reader for the told state and goals, and their list is the plan held
 abbrev pub Accepted : Task → Account → ℕ → List ℕ → Type 0
 Accepted t a n after =
-    (ks : List ℕ) → a.held ≡ holds (plan ks) → Reads (vec_items t.actions) a.state a.goals (take n after) Good × (actions_of (take n after) ≡ ks)
+    (ks : List ℕ) → a.held ≡ holds (plan ks) → ReadsGood (vec_items t.actions) a.state a.goals (take n after) × (actions_of (take n after) ≡ ks)

@@ -1,6 +1,7 @@
 // Sessions: what was told, what is held and what is out, with the history of calls behind each.
 #![tactic(auto)]
 
+mod held;
 mod model;
 mod session;
 

@@ -1,7 +1,10 @@
 // Where a session stands, what is asked of it, and why it refuses.
 ghost use Rattle.std.specs.Prelude.{◌≡◌};
+ghost use Rattle.engine.specs.Checks.{refusal_number as plan_number};
 ghost use Rattle.session.specs.Numbers.{refusal_number};
+ghost use Rattle.session.specs.Verdicts.{phase_for};
 
+use engine::{Limits, Verdict};
 use facts::FactSet;
 
 // What a session holds, and whether an order is out.
@@ -21,13 +24,25 @@ pub enum Phase {
     Ordered,
 }
 
-// The places of the two tables and the two budgets of a plan call.
-#[derive(Clone, Copy)]
-pub(crate) struct Limits {
-    pub store: usize,
-    pub frontier: usize,
-    pub hill: u32,
-    pub fallback: u32,
+// Where a session stands after a verdict.
+impl From<Verdict> for Phase {
+    ghost from_gives = { λ verdict phase. phase ≡ phase_for verdict };
+
+    fn from(verdict: Verdict) -> Phase {
+        match verdict {
+            Verdict::Plan(_) => Phase::Ready,
+            Verdict::None => Phase::Unsolvable,
+            Verdict::Spent => Phase::Spent,
+            Verdict::Full => Phase::Full,
+        }
+    }
+}
+
+// An action, and the session that orders it.
+#[derive(Clone, Copy, PartialEq, Eq)]
+pub(crate) struct Order {
+    pub session: u16,
+    pub action: u16,
 }
 
 // A call, as the checks see it.
@@ -37,8 +52,8 @@ pub(crate) enum Call {
     Aim(FactSet),
     Plan(Limits),
     Issue,
-    // done or not done, by the slip's session and action
-    Report(u16, u16),
+    // done or not done, by the slip's order
+    Report(Order),
 }
 
 // Why a call is refused.
@@ -60,6 +75,20 @@ pub enum Refusal {
     WrongSlip,
     // there is no action to issue, or no plan to write
     NothingToGive,
+}
+
+// A refusal of the plan call, as the session tells it.
+impl From<engine::Refusal> for Refusal {
+    ghost from_gives = { λ refusal told. refusal_number told ≡ plan_number refusal };
+
+    fn from(refusal: engine::Refusal) -> Refusal {
+        match refusal {
+            engine::Refusal::OutsideFacts => Refusal::OutsideFacts,
+            engine::Refusal::StorePlaces => Refusal::StorePlaces,
+            engine::Refusal::FrontierPlaces => Refusal::FrontierPlaces,
+            engine::Refusal::Budget => Refusal::Budget,
+        }
+    }
 }
 
 impl Refusal {

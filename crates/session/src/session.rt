@@ -1,10 +1,9 @@
 // A session with a yard: the told state and goals, what is held, and the order out.
-ghost use Rattle.std.specs.Prelude.{◌≤◌, length};
 ghost use Rattle.session.specs.Account.{kept};
 ghost use Rattle.session.specs.Histories.{Behind};
 
-use crate::model::{Phase, Refusal};
-use engine::LONGEST;
+use crate::held::HeldPlan;
+use crate::model::{Order, Phase, Refusal};
 use facts::FactSet;
 use strips::Task;
 
@@ -18,19 +17,15 @@ pub struct Session<'t> {
     number: u16,
     state: FactSet,
     goals: FactSet,
+    // the phase stands beside the plan, and not around it: the engine fills the plan's array where it lies
     phase: Phase,
-    plan: [u16; LONGEST],
-    at: usize,
-    len: usize,
-    ghost front: { at ≤ len },
-    ghost room: { len ≤ length plan },
-    ghost history: { ∥ Behind task.now number (kept state.words goals.words phase plan at len) ∥₁ },
+    plan: HeldPlan,
+    ghost history: { ∥ Behind task.now number (kept state.words goals.words phase plan) ∥₁ },
 }
 
 // An order: it has to be answered by `done` or `not_done`, once.
 pub struct Slip {
-    session: u16,
-    action: u16,
+    order: Order,
 }
 
 // A slip that was refused, and why.

@@ -1,79 +1,21 @@
 // The calls of a session.
-ghost use Rattle.std.specs.Prelude.{◌≡◌, ◌<◌, length, IfOk, OnErr, OnOk, slice_index};
-ghost use Rattle.facts.specs.Checks.{unless};
-ghost use Rattle.facts.specs.Words.{subset};
-ghost use Rattle.std.specs.Option.{option_map};
+ghost use Rattle.std.specs.Prelude.{◌≡◌, ◌<◌, length, None, Some, IfOk, OnErr, OnOk};
 ghost use Rattle.strips.specs.Semantics.{result as result_of};
 ghost use Rattle.strips.specs.Sound.{act};
-ghost use Rattle.engine.specs.Checks.{limits as limits_of, refusal_number as plan_number};
-ghost use Rattle.session.specs.Account.{kept, ruling};
+ghost use Rattle.session.specs.Account.{first, ruling};
 ghost use Rattle.session.specs.Histories.{aim, correct, done, issue, not_done, opened, planned, settled};
-ghost use Rattle.session.specs.Numbers.{refusal_number};
-ghost use Rattle.session.specs.Standing.{Back, Called, Counts, account, handed, order_of, outcome, plainly, reported};
-ghost use Rattle.session.specs.Opening.{Opens, length_for, phase_for};
+ghost use Rattle.session.specs.Opening.{Opens, next};
+ghost use Rattle.session.specs.Standing.{Back, Called, Counts, account, handed, outcome, plainly, reported};
 
-use crate::model::{Call, Limits, Phase, Refusal};
+use crate::held::HeldPlan;
+use crate::model::{Call, Order, Phase, Refusal};
 use crate::session::{Returned, Session, Slip};
 use closed_list::Store;
-use engine::{LONGEST, Verdict, check_limits};
+use engine::{Budgets, Planner, Verdict, check_limits};
 use facts::FactSet;
 use heuristic::Estimator;
 use open_list::Frontier;
 use strips::Task;
-
-// Whether a set lies within the facts in use.
-fn check_set(task: &Task, set: &FactSet) -> Result<(), Refusal>
-    ensures ruled { plainly result ≡ settled (unless (subset set.now.words task.now.facts.words) 6) }
-{
-    if task.admits(set) {
-        Ok(())
-    } else {
-        Err(Refusal::OutsideFacts)
-    }
-}
-
-// A refusal of the plan call, as the session tells it.
-fn retold(refusal: engine::Refusal) -> Refusal
-    ensures number { refusal_number result ≡ plan_number refusal }
-{
-    match refusal {
-        engine::Refusal::OutsideFacts => Refusal::OutsideFacts,
-        engine::Refusal::StorePlaces => Refusal::StorePlaces,
-        engine::Refusal::FrontierPlaces => Refusal::FrontierPlaces,
-        engine::Refusal::Budget => Refusal::Budget,
-    }
-}
-
-// Whether the plan call takes these places and budgets.
-fn check_plan(limits: &Limits) -> Result<(), Refusal>
-    ensures ruled { plainly result ≡ settled (option_map plan_number (limits_of limits.now.store limits.now.frontier limits.now.hill limits.now.fallback)) }
-{
-    match check_limits(limits.store, limits.frontier, limits.hill, limits.fallback) {
-        Ok(()) => Ok(()),
-        Err(refusal) => Err(retold(refusal)),
-    }
-}
-
-// Where a session stands after a verdict, and how many actions it then holds.
-fn phase_of(verdict: Verdict) -> Phase
-    ensures phase { result ≡ phase_for verdict }
-{
-    match verdict {
-        Verdict::Plan(_) => Phase::Ready,
-        Verdict::None => Phase::Unsolvable,
-        Verdict::Spent => Phase::Spent,
-        Verdict::Full => Phase::Full,
-    }
-}
-
-fn length_of(verdict: Verdict) -> usize
-    ensures length { result ≡ length_for verdict }
-{
-    match verdict {
-        Verdict::Plan(len) => usize::from(len),
-        _ => 0,
-    }
-}
 
 impl<'t> Session<'t> {
     // Opens a session on a task: its initial state and its goal are told, nothing is held or out.
@@ -88,10 +30,20 @@ impl<'t> Session<'t> {
             state: task.initial(),
             goals: task.goal(),
             phase: Phase::Unasked,
-            plan: [0; LONGEST],
-            at: 0,
-            len: 0,
+            plan: HeldPlan::empty(),
         }
+    }
+
+    // The order of the first action that remains.
+    fn next_order(&self) -> Option<Order>
+        ensures first { 0 < length self.now.plan → result ≡ Some (next self.now) }
+        ensures none { length self.now.plan ≡ 0 → result ≡ None }
+    {
+        let action = self.plan.first()?;
+        Some(Order {
+            session: self.number,
+            action,
+        })
     }
 
     // The numbered checks, on where the session stands and on the call together.
@@ -99,30 +51,19 @@ impl<'t> Session<'t> {
         ensures ruled { plainly result ≡ settled (ruling self.now.task.now self.now.number (account self.now) call.now) }
     {
         match (self.phase, call) {
-            (Phase::Ordered, Call::Report(session, action)) => {
-                if *session == self.number && *action == self.plan[self.at] {
-                    Ok(())
-                } else {
-                    Err(Refusal::WrongSlip)
-                }
-            }
-            (_, Call::Report(_, _)) => Err(Refusal::WrongSlip),
+            (Phase::Ordered, Call::Report(order)) if self.next_order() == Some(*order) => Ok(()),
+            (_, Call::Report(_)) => Err(Refusal::WrongSlip),
             (Phase::Ordered, _) => Err(Refusal::OrderOut),
-            (Phase::Ready, Call::Issue) => {
-                if self.at < self.len {
-                    Ok(())
-                } else {
-                    Err(Refusal::NothingToGive)
-                }
-            }
+            (Phase::Ready, Call::Issue) if self.plan.first().is_some() => Ok(()),
             (_, Call::Issue) => Err(Refusal::NothingToGive),
-            (_, Call::Correct(set)) => check_set(self.task, set),
-            (_, Call::Aim(set)) => check_set(self.task, set),
-            (_, Call::Plan(limits)) => check_plan(limits),
+            (_, Call::Correct(set) | Call::Aim(set)) if self.task.admits(set) => Ok(()),
+            (_, Call::Correct(_) | Call::Aim(_)) => Err(Refusal::OutsideFacts),
+            (_, Call::Plan(limits)) => Ok(check_limits(limits)?),
         }
     }
 
     // The checks; where they pass, the history goes on by this call.
+    #[tactic(auto, using(crate::proofs::Opening::opens))]
     fn admit(&self, call: &Call) -> Result<(), Refusal>
         ensures ruled { plainly result ≡ settled (ruling self.now.task.now self.now.number (account self.now) call.now) }
         ensures opens { OnOk result (Opens self.now call.now) }
@@ -153,46 +94,24 @@ impl<'t> Session<'t> {
     // Plans from the told state to the told goals, and holds what is answered.
     pub fn plan<E: Estimator, F: Frontier, S: Store>(
         &mut self,
-        estimator: &mut E,
-        frontier: &mut F,
-        store: &mut S,
-        hill: u32,
-        fallback: u32,
+        planner: &mut Planner<E, F, S>,
+        budgets: Budgets,
     ) -> Result<(Verdict, u32, u32), Refusal>
-        ensures call { Called self.old (planned (record { estimate = E.Estimator.meaning; prefers = E.Estimator.prefers; limits = record { store = S.Store.room store.old; frontier = F.Frontier.room frontier.old; hill = hill; fallback = fallback } }) (outcome self.new result)) self.new }
+        ensures call { Called self.old (planned (record { estimate = E.meaning; prefers = E.prefers; limits = record { store = S.room planner.old.searcher.store; frontier = F.room planner.old.frontier; budgets = budgets } }) (outcome self.new result)) self.new }
         ensures counts { IfOk result (λ a. Counts a.0 (account self.new)) }
-        ensures store_room { S.Store.room store.new ≡ S.Store.room store.old }
-        ensures frontier_room { F.Frontier.room frontier.new ≡ F.Frontier.room frontier.old }
-        ensures untouched { OnErr result ((estimator.new ≡ estimator.old) × (frontier.new ≡ frontier.old) × (store.new ≡ store.old)) }
+        ensures store_room { S.room planner.new.searcher.store ≡ S.room planner.old.searcher.store }
+        ensures frontier_room { F.room planner.new.frontier ≡ F.room planner.old.frontier }
+        ensures untouched { OnErr result (planner.new ≡ planner.old) }
     {
-        let limits = Limits {
-            store: store.places(),
-            frontier: frontier.places(),
-            hill,
-            fallback,
+        self.admit(&Call::Plan(planner.limits(budgets)))?;
+        let Ok(answer) = self
+            .plan
+            .fill(planner, self.task, &self.state, &self.goals, budgets)
+        else {
+            unreachable!()
         };
-        self.admit(&Call::Plan(limits))?;
-        let state = self.state;
-        let goals = self.goals;
-        match engine::plan(
-            self.task,
-            &state,
-            &goals,
-            estimator,
-            frontier,
-            store,
-            hill,
-            fallback,
-            &mut self.plan,
-        ) {
-            Ok((verdict, climbed, tried)) => {
-                self.at = 0;
-                self.len = length_of(verdict);
-                self.phase = phase_of(verdict);
-                Ok((verdict, climbed, tried))
-            }
-            Err(_) => unreachable(),
-        }
+        self.phase = Phase::from(answer.0);
+        Ok(answer)
     }
 
     // Orders the first remaining action.
@@ -200,56 +119,59 @@ impl<'t> Session<'t> {
         ensures call { Called self.old (issue (handed result)) self.new }
     {
         self.admit(&Call::Issue)?;
-        let action = self.plan[self.at];
+        let Some(order) = self.next_order() else {
+            unreachable!()
+        };
         self.phase = Phase::Ordered;
-        Ok(Slip {
-            session: self.number,
-            action,
-        })
+        Ok(Slip { order })
     }
 
-    // The told state after the action that stands first.
+    // The told state after the first action that remains.
     fn next_state(&self) -> FactSet
-        requires left { self.now.at < length self.now.plan }
-        requires exists { slice_index self.now.plan self.now.at < length self.now.task.now.actions.items }
-        ensures words { result.words ≡ result_of (act self.now.task.now.actions.items (slice_index self.now.plan self.now.at)) self.now.state.words }
+        requires left { 0 < length self.now.plan }
+        requires exists { first self.now.plan < length self.now.task.now.actions.items }
+        ensures words { result.words ≡ result_of (act self.now.task.now.actions.items (first self.now.plan)) self.now.state.words }
     {
-        match self.task.action(usize::from(self.plan[self.at])) {
-            Some(action) => action.apply(&self.state),
-            None => unreachable(),
+        let Some(action) = self.plan.first() else {
+            unreachable!()
+        };
+        let Some(action) = self.task.action(usize::from(action)) else {
+            unreachable!()
+        };
+        action.apply(&self.state)
+    }
+
+    // Takes back the slip of the order that is out; another one is refused, and comes back.
+    fn close(&self, slip: Slip) -> Result<(), Returned>
+        ensures ruled { reported result ≡ settled (ruling self.now.task.now self.now.number (account self.now) (Call.Report slip.order)) }
+        ensures opens { OnOk result (Opens self.now (Call.Report slip.order)) }
+        ensures back { Back slip result }
+    {
+        if let Err(refusal) = self.admit(&Call::Report(slip.order)) {
+            return Err(Returned { refusal, slip });
         }
+        let Slip { order: _ } = slip;
+        Ok(())
     }
 
     // The ordered action was done.
     pub fn done(&mut self, slip: Slip) -> Result<(), Returned>
-        ensures call { Called self.old (done (order_of slip) (reported result)) self.new }
+        ensures call { Called self.old (done slip.order (reported result)) self.new }
         ensures back { Back slip result }
     {
-        if let Err(refusal) = self.admit(&Call::Report(slip.session, slip.action)) {
-            return Err(Returned { refusal, slip });
-        }
-        let Slip {
-            session: _,
-            action: _,
-        } = slip;
+        self.close(slip)?;
         self.state = self.next_state();
-        self.at += 1;
+        self.plan.advance();
         self.phase = Phase::Ready;
         Ok(())
     }
 
     // The ordered action was not done.
     pub fn not_done(&mut self, slip: Slip) -> Result<(), Returned>
-        ensures call { Called self.old (not_done (order_of slip) (reported result)) self.new }
+        ensures call { Called self.old (not_done slip.order (reported result)) self.new }
         ensures back { Back slip result }
     {
-        if let Err(refusal) = self.admit(&Call::Report(slip.session, slip.action)) {
-            return Err(Returned { refusal, slip });
-        }
-        let Slip {
-            session: _,
-            action: _,
-        } = slip;
+        self.close(slip)?;
         self.phase = Phase::Unasked; // the plan failed in the yard
         Ok(())
     }

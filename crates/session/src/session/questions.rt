@@ -12,21 +12,22 @@ use facts::FactSet;
 impl Slip {
     // The action that is ordered.
     pub fn action(&self) -> u16
-        ensures value { result ≡ self.now.action }
+        ensures value { result ≡ self.now.order.action }
     {
-        self.action
+        self.order.action
     }
 
     // The number of the session that gave the order.
     pub fn session(&self) -> u16
-        ensures value { result ≡ self.now.session }
+        ensures value { result ≡ self.now.order.session }
     {
-        self.session
+        self.order.session
     }
 }
 
 impl<'t> Session<'t> {
     // Where the session stands. Behind it there is a history of calls, and what holds wherever a history ends holds here.
+    #[tactic(auto, using(crate::proofs::Shown::shows, crate::proofs::Here::stands))]
     pub fn standing(&self) -> Phase
         ensures shows { Shows result (account self.now) }
         ensures stands { Stands self.now }
@@ -55,11 +56,12 @@ impl<'t> Session<'t> {
     }
 
     // The action that is out.
+    #[tactic(auto, using(crate::proofs::Fields::ordered_front))]
     pub fn order_out(&self) -> Option<u16>
         ensures value { result ≡ (account self.now).out }
     {
         match self.phase {
-            Phase::Ordered => Some(self.plan[self.at]),
+            Phase::Ordered => self.plan.first(),
             _ => None,
         }
     }
@@ -70,7 +72,7 @@ impl<'t> Session<'t> {
         ensures short { length result.now ≤ longest }
     {
         match self.phase {
-            Phase::Ready | Phase::Ordered => &self.plan[self.at..self.len],
+            Phase::Ready | Phase::Ordered => self.plan.remaining(),
             _ => &[],
         }
     }
@@ -82,10 +84,9 @@ impl<'t> Session<'t> {
     {
         match self.phase {
             Phase::Ready | Phase::Ordered => {
-                match planfile::write(self.task, &self.state, self.remaining(), buffer) {
-                    Ok(used) => Ok(used),
-                    Err(_) => Err(Refusal::BufferTooShort),
-                }
+                planfile::write(self.task, &self.state, self.plan.remaining(), buffer).map_err(
+                    |_| Refusal::BufferTooShort,
+                )
             }
             _ => Err(Refusal::NothingToGive),
         }

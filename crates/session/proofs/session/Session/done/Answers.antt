@@ -1,9 +1,6 @@
-use Rattle.std.proofs.Common.{refl}
-use Rattle.session.proofs.Calling.{called}
 use Rattle.session.proofs.session.Session.done.Goals as goal
 
-pub returns-clause-call : goal.returns-clause-call
-returns-clause-call c =
-    let a = c.in_default.ensures in
-    let moves = a.opens.2 _ c.next_state-self.ensures.words in
-    called _ _ _ a.ruled (cc) refl refl tt
+pub invariant_of-self : goal.invariant_of-self
+invariant_of-self c =
+    let a = c.in_ok-close.ensures.opens in
+    record { history = rw c.advance.ensures.rest (a.3 _ c.next_state-self.ensures.words) }

@@ -1,31 +1,22 @@
 use Rattle.std.proofs.Common.{◌≡◌, sym, ap, ◌∙◌, rules}
 use Rattle.engine.specs.Answers.{plan}
-use Rattle.session.specs.Account.{holds, remaining}
+use Rattle.session.specs.Account.{holds}
 use Rattle.session.specs.Standing.{account}
 use Rattle.session.specs.Writing.{no_plan}
 use Rattle.session.proofs.Fields.{state_in}
 use Rattle.session.proofs.Here.{leads_here}
-use Rattle.session.proofs.Written.{accepted, held_none, held_plan, refused_short, wrote}
+use Rattle.session.proofs.Written.{accepted, held_none, held_plan, if_retold, retold}
 use Rattle.session.proofs.session.Session.write_plan.Goals as goal
 
-pub returns-in-Ok : goal.returns-in-Ok
-returns-in-Ok c =
+pub returns-in-Ready : goal.returns-in-Ready
+returns-in-Ready c =
     let s = c.args.self.now in
-    let held = held_plan s.phase _ c.in-Ready.is in
-    let ks-is = c.remaining.ensures.list ∙ ap remaining held in
-    let e : (account s).held ≡ holds (plan c.remaining.result.now) = held ∙ ap (λ z. holds (plan z)) (sym ks-is) in
+    let w = c.write.ensures in
+    let e : (account s).held ≡ holds (plan c.remaining.result.now) = held_plan s.phase _ c.in-Ready.is ∙ ap (λ l. holds (plan l)) (sym c.remaining.ensures.list) in
     record {
-      writes = wrote s.task.now (account s) c.remaining.result.now _ e (let w = c.in-Ok.ensures.writes in search rules);
-      accepted = accepted s.task.now (account s) c.in-Ok.used c.write.new.out c.remaining.result.now e (leads_here s _ e) (let w = c.in-Ok.ensures.reads_back in search rules);
+      writes = retold s.task.now (account s) _ _ e _ _ c.write.result c.map_err.result c.map_err.ensures.cases (λ x y h. search rules) (leads_here s _ e) (state_in s) c.remaining.ensures.short (let writes = w.writes in search rules);
+      accepted = if_retold _ _ _ _ _ c.map_err.ensures.cases w.reads_back (λ n. accepted s.task.now (account s) n c.write.new.out _ e (leads_here s _ e));
     }
-
-pub returns-in-Err : goal.returns-in-Err
-returns-in-Err c =
-    let s = c.args.self.now in
-    let held = held_plan s.phase _ c.in-Ready.is in
-    let ks-is = c.remaining.ensures.list ∙ ap remaining held in
-    let e : (account s).held ≡ holds (plan c.remaining.result.now) = held ∙ ap (λ z. holds (plan z)) (sym ks-is) in
-    record { writes = refused_short s.task.now (account s) c.remaining.result.now _ e {x = c.in-Err.field-0} (leads_here s _ e) (state_in s) c.remaining.ensures.short (let w = c.in-Err.ensures.writes in search rules); accepted = tt }
 
 pub returns-in_default : goal.returns-in_default
 returns-in_default c =
