@@ -1,4 +1,4 @@
-use closed_list::{Refusal, Row, ScannedStore, Store, enter_all, read_all};
+use closed_list::{Refusal, Row, ScannedStore, Store, Table, enter_all, read_all};
 use facts::FactSet;
 use hashed_list::HashedStore;
 use heuristic::Estimate;
@@ -54,6 +54,23 @@ fn known_is_told_before_full(rt: HostRuntime) -> Result<(), Fail> {
     Ok(())
 }
 
+// A table of one place gives its row and the link beside it, and is full until it is cleared.
+#[test]
+fn a_table_has_rows_to_its_places(rt: HostRuntime) -> Result<(), Fail> {
+    let mut table = Table::new(rt.alloc(), 1)?;
+    for _ in 0..2 {
+        assert!(rt; table.places() == 1 && table.entries().is_empty());
+        assert!(rt; table.row(0).is_none());
+        assert!(rt; table.push(row(only(1), 7), true) == Ok(0));
+        assert!(rt; table.push(row(only(2), 8), true) == Err(Refusal::Full));
+        assert!(rt; table.entries().len() == 1 && table.entries()[0].link);
+        assert!(rt; table.row(0) == Some(row(only(1), 7)));
+        assert!(rt; table.row(1).is_none());
+        table.clear();
+    }
+    Ok(())
+}
+
 #[test]
 fn no_place_takes_no_row(rt: HostRuntime) -> Result<(), Fail> {
     let mut store = HashedStore::new(rt.alloc(), 0)?;
@@ -89,6 +106,8 @@ fn tells_bits_apart<S: Store>(rt: &impl Abort, heap: Global, store: &mut S) -> R
         assert!(rt; !store.read(5, &mut record));
         assert!(rt; record.action == 99 && record.state == only(9));
         assert!(rt; store.read(3, &mut record) && record.action == 4);
+        assert!(rt; store.row(3) == Some(record));
+        assert!(rt; store.row(5).is_none());
     }
     Ok(())
 }
