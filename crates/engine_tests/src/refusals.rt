@@ -58,7 +58,10 @@ fn check_refused(rt: &(impl Abort + AllocGlobal), task: &Task, call: Attempt) ->
     for left in buffer.iter() {
         assert_eq!(rt; *left, MARK);
     }
-    assert_eq!(rt; planner.searcher.store.count(), usize::from(call.places.min(1)));
+    assert_eq!(rt;
+        planner.searcher.store.count(),
+        usize::from(call.places.min(1))
+    );
     assert!(rt; call.places == 0 || planner.searcher.store.find(&set_of(&ROW_STATE)).is_some());
     match planner.frontier.take() {
         Some(left) => {
