@@ -1,18 +1,21 @@
 -- What the console answers to a line, and the calls that it makes of the session for it.
-use Rattle.std.specs.Prelude.{ℕ, Bool, cond, List, length, Some, None, Option, ◌==◌}
+use Rattle.std.specs.Prelude.{ℕ, Bool, if◌then◌else◌, List, length, Some, None, Option, ◌==◌}
 use Rattle.strips.specs.declared.action.Action.{Action}
 use Rattle.strips.specs.Semantics.{State}
 use Rattle.heuristic.specs.declared.estimate.Estimate.{Estimate}
 use Rattle.engine.specs.Answers.{Answer, plan, none, spent, full}
 use Rattle.engine.specs.declared.model.Verdict.{Verdict}
 use Rattle.engine.specs.declared.model.Verdict.TheVariants as verdicts
-use Rattle.session.specs.Histories.{Asking, Order, Outcome, Reply, answers, done, issue, not_done, planned, refused}
+use Rattle.session.specs.Histories.{Asking, Outcome, Reply, answers, done, issue, not_done, planned, refused}
 use Rattle.session.specs.Standing.{Called}
+use Rattle.session.specs.declared.model.Order.{Order}
 use Rattle.session.specs.declared.session.Session.{Session}
 use Rattle.console_lines.specs.declared.command.Command.{Command}
 use Rattle.console_lines.specs.declared.command.Command.TheVariants as commands
 use Rattle.console_lines.specs.declared.reply.Reply.{Reply as Line}
 use Rattle.console_lines.specs.declared.reply.Reply.TheVariants as lines
+use Rattle.commands.specs.declared.serve.Report.{Report}
+use Rattle.commands.specs.declared.serve.Report.TheVariants.{Done, NotDone}
 
 -- the estimator and the tables that the console plans with
 pub record Desk : Type 0 where
@@ -22,7 +25,7 @@ pub record Desk : Type 0 where
   pub frontier : ℕ
 
 abbrev pub asking : Desk → ℕ → ℕ → Asking
-asking d h f = record { estimate = d.estimate; prefers = d.prefers; limits = record { store = d.store; frontier = d.frontier; hill = h; fallback = f } }
+asking d h f = record { estimate = d.estimate; prefers = d.prefers; limits = record { store = d.store; frontier = d.frontier; budgets = record { hill = h; fallback = f } } }
 
 -- the line of an answer with its counts
 abbrev pub verdict_line : Answer → ℕ → ℕ → Line
@@ -44,7 +47,12 @@ plan_line (refused n) = lines.Refused n
 
 -- a refused issue: 22 is idle
 abbrev pub refused_line : ℕ → Line
-refused_line n = cond (n == 22) lines.Idle (lines.Refused n)
+refused_line n = if n == 22 then lines.Idle else lines.Refused n
+
+-- the command that orders an action and answers the order by the report
+abbrev pub command_of : Report → Command
+command_of Done = commands.Step
+command_of NotDone = commands.Skip
 
 -- the reply to a command, or to a line that is none, and the session after it
 pub data Serves (d : Desk) (s : Session) : Option Command → Line → Session → Type 0 where

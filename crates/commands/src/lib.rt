@@ -3,4 +3,4 @@
 
 mod serve;
 
-pub use serve::respond;
+pub use serve::Console;

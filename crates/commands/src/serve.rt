@@ -2,14 +2,37 @@ ghost use Rattle.std.specs.Prelude.{◌≡◌, Some};
 ghost use Rattle.console_lines.specs.Commands.{command};
 ghost use Rattle.session.specs.Numbers.{refusal_number};
 ghost use Rattle.session.specs.Standing.{Stands};
-ghost use Rattle.commands.specs.Serves.{Desk, Serves, refused_line, told};
+ghost use Rattle.commands.specs.Serves.{Desk, Serves, command_of, refused_line, told};
 
 use closed_list::Store;
 use console_lines::{Command, Reply, parse};
-use engine::Verdict;
+use engine::{Budgets, Planner, Verdict};
 use heuristic::Estimator;
 use open_list::Frontier;
 use session::{Refusal, Session};
+
+// A console: its session, and what it plans with.
+#[derive(Drop)]
+pub struct Console<'t, E, F, S> {
+    pub session: Session<'t>,
+    pub planner: Planner<E, F, S>,
+}
+
+// How an order is answered.
+#[derive(Clone, Copy)]
+pub(crate) enum Report {
+    Done,
+    NotDone,
+}
+
+// The line of a refusal.
+fn refused(refusal: Refusal) -> Reply
+    ensures line { result ≡ Reply.Refused (refusal_number refusal) }
+{
+    Reply::Refused {
+        number: refusal.number(),
+    }
+}
 
 // The line of a refused issue.
 fn unissued(refusal: Refusal) -> Reply
@@ -17,9 +40,7 @@ fn unissued(refusal: Refusal) -> Reply
 {
     match refusal {
         Refusal::NothingToGive => Reply::Idle,
-        _ => Reply::Refused {
-            number: refusal.number(),
-        },
+        _ => refused(refusal),
     }
 }
 
@@ -39,97 +60,62 @@ fn tell(verdict: Verdict, hill: u32, fallback: u32) -> Reply
     }
 }
 
-// Plans, and tells the verdict.
-fn plan<E: Estimator, F: Frontier, S: Store>(
-    session: &mut Session<'_>,
-    estimator: &mut E,
-    frontier: &mut F,
-    store: &mut S,
-    hill: u32,
-    fallback: u32,
-) -> Reply
-    ensures serves { Serves (record { estimate = E.meaning; prefers = E.prefers; store = S.room store.old; frontier = F.room frontier.old }) session.old (Some (Command.Plan hill fallback)) result session.new }
-    ensures store_room { S.room store.new ≡ S.room store.old }
-    ensures frontier_room { F.room frontier.new ≡ F.room frontier.old }
+// Issues an order and answers it at once.
+#[tactic(auto, using(crate::proofs::Served::unordered, crate::proofs::Served::stepped, crate::proofs::Served::skipped))]
+fn order(session: &mut Session<'_>, report: Report) -> Reply
+    ensures serves { (d : Desk) → Serves d session.old (Some (command_of report)) result session.new }
 {
-    match session.plan(estimator, frontier, store, hill, fallback) {
-        Ok((verdict, climbed, tried)) => tell(verdict, climbed, tried),
-        Err(refusal) => Reply::Refused {
-            number: refusal.number(),
+    let slip = match session.issue() {
+        Ok(slip) => slip,
+        Err(refusal) => return unissued(refusal),
+    };
+    let action = slip.action();
+    match report {
+        Report::Done => match session.done(slip) {
+            Ok(()) => Reply::Did { action },
+            Err(_back) => unreachable!(),
+        },
+        Report::NotDone => match session.not_done(slip) {
+            Ok(()) => Reply::NotDone { action },
+            Err(_back) => unreachable!(),
         },
     }
 }
 
-// Issues an order and reports it done.
-fn step(session: &mut Session<'_>) -> Reply
-    ensures serves { (d : Desk) → Serves d session.old (Some Command.Step) result session.new }
-{
-    match session.issue() {
-        Ok(slip) => {
-            let action = slip.action();
-            match session.done(slip) {
-                Ok(()) => Reply::Did { action },
-                Err(_back) => unreachable!(),
+impl<'t, E: Estimator, F: Frontier, S: Store> Console<'t, E, F, S> {
+    // Carries out the command that a line is.
+    fn carry_out(&mut self, line: &[u8]) -> Reply
+        ensures serves { Serves (record { estimate = E.meaning; prefers = E.prefers; store = S.room self.old.planner.searcher.store; frontier = F.room self.old.planner.frontier }) self.old.session (command line.now) result self.new.session }
+        ensures store_room { S.room self.new.planner.searcher.store ≡ S.room self.old.planner.searcher.store }
+        ensures frontier_room { F.room self.new.planner.frontier ≡ F.room self.old.planner.frontier }
+    {
+        let Some(asked) = parse(line) else {
+            return Reply::Bad;
+        };
+        match asked {
+            Command::Plan { hill, fallback } => {
+                match self
+                    .session
+                    .plan(&mut self.planner, Budgets { hill, fallback })
+                {
+                    Ok((verdict, climbed, tried)) => tell(verdict, climbed, tried),
+                    Err(refusal) => refused(refusal),
+                }
             }
+            Command::Step => order(&mut self.session, Report::Done),
+            Command::Skip => order(&mut self.session, Report::NotDone),
         }
-        Err(refusal) => unissued(refusal),
     }
-}
 
-// Issues an order and reports it not done.
-fn skip(session: &mut Session<'_>) -> Reply
-    ensures serves { (d : Desk) → Serves d session.old (Some Command.Skip) result session.new }
-{
-    match session.issue() {
-        Ok(slip) => {
-            let action = slip.action();
-            match session.not_done(slip) {
-                Ok(()) => Reply::NotDone { action },
-                Err(_back) => unreachable!(),
-            }
-        }
-        Err(refusal) => unissued(refusal),
+    // Answers a line. What holds wherever a history of calls ends holds of the session after it.
+    pub fn respond(&mut self, line: &[u8]) -> Reply
+        ensures serves { Serves (record { estimate = E.meaning; prefers = E.prefers; store = S.room self.old.planner.searcher.store; frontier = F.room self.old.planner.frontier }) self.old.session (command line.now) result self.new.session }
+        ensures stands { Stands self.new.session }
+        ensures store_room { S.room self.new.planner.searcher.store ≡ S.room self.old.planner.searcher.store }
+        ensures frontier_room { F.room self.new.planner.frontier ≡ F.room self.old.planner.frontier }
+    {
+        let reply = self.carry_out(line);
+        self.session.standing();
+        reply
     }
-}
-
-// Carries out the command that a line is.
-fn carry_out<E: Estimator, F: Frontier, S: Store>(
-    session: &mut Session<'_>,
-    estimator: &mut E,
-    frontier: &mut F,
-    store: &mut S,
-    line: &[u8],
-) -> Reply
-    ensures serves { Serves (record { estimate = E.meaning; prefers = E.prefers; store = S.room store.old; frontier = F.room frontier.old }) session.old (command line.now) result session.new }
-    ensures store_room { S.room store.new ≡ S.room store.old }
-    ensures frontier_room { F.room frontier.new ≡ F.room frontier.old }
-{
-    let Some(asked) = parse(line) else {
-        return Reply::Bad;
-    };
-    match asked {
-        Command::Plan { hill, fallback } => {
-            plan(session, estimator, frontier, store, hill, fallback)
-        }
-        Command::Step => step(session),
-        Command::Skip => skip(session),
-    }
-}
-
-// Answers a line. What holds wherever a history of calls ends holds of the session after it.
-pub fn respond<E: Estimator, F: Frontier, S: Store>(
-    session: &mut Session<'_>,
-    estimator: &mut E,
-    frontier: &mut F,
-    store: &mut S,
-    line: &[u8],
-) -> Reply
-    ensures serves { Serves (record { estimate = E.meaning; prefers = E.prefers; store = S.room store.old; frontier = F.room frontier.old }) session.old (command line.now) result session.new }
-    ensures stands { Stands session.new }
-    ensures store_room { S.room store.new ≡ S.room store.old }
-    ensures frontier_room { F.room frontier.new ≡ F.room frontier.old }
-{
-    let reply = carry_out(session, estimator, frontier, store, line);
-    session.standing();
-    reply
 }

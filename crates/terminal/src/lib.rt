@@ -1,8 +1,9 @@
 // The console at work: the yard from its file, commands from standard input, replies to standard output.
 #![tactic(auto)]
 
-use commands::respond;
+use commands::Console;
 use console_lines::Reply;
+use engine::Planner;
 use hashed_list::HashedStore;
 use input_lines::next_line;
 use ordered_open_list::WeightedFrontier;
@@ -23,10 +24,12 @@ const LINE_END: u8 = 10;
 
 // Answers each line as it comes.
 fn converse(rt: &HostRuntime, task: &Task) -> anyhow::Result<()> {
-    let mut session = Session::open(task, SESSION);
-    let mut estimator = RelaxedGraph::new();
-    let mut frontier = WeightedFrontier::new(rt.alloc(), usize::from(PLACES))?;
-    let mut store = HashedStore::new(rt.alloc(), PLACES)?;
+    let frontier = WeightedFrontier::new(rt.alloc(), usize::from(PLACES))?;
+    let store = HashedStore::new(rt.alloc(), PLACES)?;
+    let mut console = Console {
+        session: Session::open(task, SESSION),
+        planner: Planner::new(RelaxedGraph::new(), frontier, store),
+    };
     let mut input = BufReader::new(rt.alloc(), rt.stdin())?;
     let mut bytes = Vec::new(rt.alloc());
     for _ in 0..u64::MAX {
@@ -35,13 +38,7 @@ fn converse(rt: &HostRuntime, task: &Task) -> anyhow::Result<()> {
         let Some((line, _)) = next_line(&bytes) else {
             break;
         };
-        let reply = respond(
-            &mut session,
-            &mut estimator,
-            &mut frontier,
-            &mut store,
-            line,
-        );
+        let reply = console.respond(line);
         println!(rt; "{reply}")?;
     }
     Ok(())
