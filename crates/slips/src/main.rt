@@ -4,7 +4,7 @@
 ghost use Rattle.std.specs.Prelude.{IsOk};
 
 use closed_list::ScannedStore;
-use engine::Verdict;
+use engine::{Budgets, Planner, Verdict};
 use open_list::Queue;
 use relaxed::RelaxedGraph;
 use session::{Returned, Session};
@@ -13,20 +13,21 @@ use strips::Task;
 
 const PLACES: u16 = 16;
 
-const BUDGET: u32 = 100;
+const BUDGETS: Budgets = Budgets {
+    hill: 100,
+    fallback: 100,
+};
 
 // Orders the first remaining lift and reports it done; nothing where none remains. A session takes its own slip back.
 fn lift(session: &mut Session<'_>) -> Result<Option<u16>, Returned>
     ensures answered { IsOk result }
 {
-    match session.issue() {
-        Ok(slip) => {
-            let action = slip.action();
-            session.done(slip)?;
-            Ok(Some(action))
-        }
-        Err(_) => Ok(None),
-    }
+    let Ok(slip) = session.issue() else {
+        return Ok(None);
+    };
+    let action = slip.action();
+    session.done(slip)?;
+    Ok(Some(action))
 }
 
 // Carries out as many lifts as the plan has.
@@ -35,39 +36,31 @@ fn carry_out(rt: &HostRuntime, session: &mut Session<'_>, len: u16) -> anyhow::R
         match lift(session) {
             Ok(Some(action)) => println!(rt; "did {action}")?,
             Ok(None) => println!(rt; "nothing to lift")?,
-            Err(_back) => unreachable(),
+            Err(_back) => unreachable!(),
         }
     }
     Ok(())
 }
 
 fn main(rt: HostRuntime) -> anyhow::Result<()> {
-    let file = match fs::read(&rt, "yard.tsk") {
-        Ok(bytes) => bytes,
-        Err(_) => Vec::new(rt.alloc()),
-    };
+    let file = fs::read(&rt, "yard.tsk").unwrap_or_else(|_| Vec::new(rt.alloc()));
     let mut task = Task::new(rt.alloc())?;
     if let Err(fault) = task.read(&file) {
-        let cause = fault.cause.number();
-        let record = fault.record;
-        println!(rt; "task {cause} {record}")?;
+        println!(rt; "task {} {}", fault.cause.number(), fault.record)?;
         return Ok(());
     }
     let mut session = Session::open(&task, 1);
-    let mut graph = RelaxedGraph::new();
-    let mut queue = Queue::new(rt.alloc(), usize::from(PLACES))?;
-    let mut store = ScannedStore::new(rt.alloc(), PLACES)?;
-    match session.plan(&mut graph, &mut queue, &mut store, BUDGET, BUDGET) {
+    let queue = Queue::new(rt.alloc(), usize::from(PLACES))?;
+    let store = ScannedStore::new(rt.alloc(), PLACES)?;
+    let mut planner = Planner::new(RelaxedGraph::new(), queue, store);
+    match session.plan(&mut planner, BUDGETS) {
         Ok((Verdict::Plan(len), climbed, tried)) => {
             println!(rt; "plan {len} {climbed} {tried}")?;
             carry_out(&rt, &mut session, len)?;
         }
         Ok((Verdict::None, _, _)) => println!(rt; "no plan exists")?,
         Ok((_, _, _)) => println!(rt; "undecided")?,
-        Err(refusal) => {
-            let number = refusal.number();
-            println!(rt; "refused {number}")?;
-        }
+        Err(refusal) => println!(rt; "refused {}", refusal.number())?,
     }
     let left = session.goals().missing(&session.state());
     println!(rt; "goals left {left}")?;
