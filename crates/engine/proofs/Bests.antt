@@ -15,7 +15,7 @@ use Rattle.closed_list.specs.Rows.{row}
 use Rattle.bounded_heap.specs.Waiting.{Put}
 use Rattle.strips.specs.declared.action.Action.{Action}
 use Rattle.engine.specs.Generation.{Setting, setting, root, first_row}
-use Rattle.engine.specs.BestFirst.{entry, Considers, passed, full, reached, never, waits, Expanding, start, more, Expands, Turn, Explored, begin, turn, Good}
+use Rattle.engine.specs.BestFirst.{entry, Considers, passed, full, reached, never, waits, Expanding, start, more, Expands, Turn, Explored, begin, turn}
 use Rattle.engine.specs.Answers as answers
 use Rattle.engine.specs.Answers.{Answer, Searched, said, plan, spent, out_of_budget, met_full, found}
 use Rattle.engine.specs.Outcomes.{Counts, verdict_of}
@@ -96,9 +96,6 @@ pub record Sound (q : Setting) (s : State) (rows : List Row) (w : List Entry) : 
   pub fewer : length w ≤ length rows
   pub entries : AllByRecursion (λ e. e.row < length rows) w
 
-pub sound_good : {q : Setting} {s : State} {rows : List Row} {w : List Entry} → Sound q s rows w → Good rows w
-sound_good h = record { fewer = h.fewer; entries = h.entries; near = h.tree.near }
-
 pub record Taken (rows : List Row) (e : Entry) (rest : List Entry) : Type 0 where
   pub there : e.row < length rows
   pub near : (row rows e.row).distance < length rows
@@ -106,16 +103,16 @@ pub record Taken (rows : List Row) (e : Entry) (rest : List Entry) : Type 0 wher
   pub entries : AllByRecursion (λ e. e.row < length rows) rest
 
 -- one entry taken
-pub good_taken : (rows : List Row) (w : List Entry) (e : Entry) (rest : List Entry) → Good rows w → IsPermutation w (e ∷ rest) → Taken rows e rest
-good_taken rows w e rest g m =
-    let all = all_shuffled _ w (e ∷ rest) m g.entries in
+pub sound_taken : {q : Setting} {s : State} {rows : List Row} {w : List Entry} {e : Entry} {rest : List Entry} → Sound q s rows w → IsPermutation w (e ∷ rest) → Taken rows e rest
+sound_taken {w = w} {e = e} {rest = rest} h m =
+    let all = all_shuffled _ w (e ∷ rest) m h.entries in
     let len = length_permutation w (e ∷ rest) m in
-    let near = g.near e.row all.0 in
-    record { there = all.0; near = omega (arith, all.0); fewer = omega (arith, g.fewer); entries = all.1 }
+    let near = h.tree.near e.row all.0 in
+    record { there = all.0; near = omega (arith, all.0); fewer = omega (arith, h.fewer); entries = all.1 }
 
 pub turn_kept : {q : Setting} {s : State} {rows : List Row} {w : List Entry} {y : Result (Option ℕ) StoreFull} {rows' : List Row} {w' : List Entry} (t : Turn q rows w y rows' w') → Sound q s rows w → Kept q s t.e.row (row rows t.e.row) rows t.rest
 turn_kept {rows = rows} {w = w} t h =
-    let k = good_taken rows w t.e t.rest (sound_good h) t.taken in
+    let k = sound_taken h t.taken in
     record { grown = row_grown h.tree k.there; fewer = k.fewer; entries = k.entries }
 
 pub turn_sound : {q : Setting} {s : State} {rows : List Row} {w : List Entry} {y : Result (Option ℕ) StoreFull} {rows' : List Row} {w' : List Entry} → Turn q rows w y rows' w' → Sound q s rows w → Sound q s rows' w'

@@ -1,7 +1,6 @@
 -- What the best-first phase may do. Which waiting entry is taken is left open; all else is fixed.
 use Rattle.std.specs.Prelude.{◌≡◌, ℕ, ◌+◌, ◌<◌, ◌≤◌, List, [], ◌∷◌, length, Some, None, Ok, Err, Option, Result}
 use Rattle.std.specs.List.Sorted.{IsPermutation}
-use Rattle.std.specs.List.{AllByRecursion}
 use Rattle.strips.specs.Semantics.{State}
 use Rattle.open_list.specs.declared.entry.Entry.{Entry}
 use Rattle.closed_list.specs.declared.row.Row.{Row}
@@ -53,9 +52,3 @@ pub record Turn (q : Setting) (rows : List Row) (w : List Entry) (y : Result (Op
 pub data Explored (q : Setting) (budget : ℕ) (s : State) : List Row → List Entry → ℕ → Type 0 where
   begin : {h : ℕ} {w : List Entry} → q.est s ≡ Steps h → 0 < h → IsPermutation (entry 0 h 0 ∷ []) w → Explored q budget s (root q s ∷ []) w 0
   turn : {rows rows' : List Row} {w w' : List Entry} {n : ℕ} → Explored q budget s rows w n → n < budget → Turn q rows w (Ok None) rows' w' → Explored q budget s rows' w' (n + 1)
-
--- what the tables keep: numbers of rows are in range, and a row's distance is at most its number
-pub record Good (rows : List Row) (w : List Entry) : Type 0 where
-  pub fewer : length w ≤ length rows
-  pub entries : AllByRecursion (λ e. e.row < length rows) w
-  pub near : (j : ℕ) → j < length rows → (row rows j).distance ≤ j

@@ -1,5 +1,5 @@
 // The complete best-first phase.
-ghost use Rattle.std.specs.Prelude.{◌≡◌, ℕ, ◌<◌, ◌≤◌, length};
+ghost use Rattle.std.specs.Prelude.{◌≡◌, ◌<◌, ◌≤◌, length};
 ghost use Rattle.heuristic.specs.declared.estimate.Estimate.TheVariants.{Steps};
 ghost use Rattle.closed_list.specs.Rows.{row as row_at};
 ghost use Rattle.engine.specs.Answers.{Searched, Sized, said};

@@ -1,5 +1,5 @@
 // The plan call.
-ghost use Rattle.std.specs.Prelude.{◌≡◌, ℕ, ◌<◌, ◌≤◌, true, length, take, drop, IfOk, OnErr, OnOk};
+ghost use Rattle.std.specs.Prelude.{◌≡◌, ℕ, ◌<◌, ◌≤◌, true, length, IfOk, OnErr, OnOk};
 ghost use Rattle.facts.specs.Checks.{fault_in};
 ghost use Rattle.facts.specs.Words.{subset};
 ghost use Rattle.engine.specs.Answers.{Decides, Excludes, MayAnswer, Past, Plans, Sized, said};
@@ -57,6 +57,7 @@ fn deliver(verdict: Verdict, list: &[u16], buffer: &mut [u16])
 }
 
 impl<E: Estimator, F: Frontier, S: Store> Planner<E, F, S> {
+    // Puts an estimator and the two tables together.
     pub fn new(estimator: E, frontier: F, store: S) -> Planner<E, F, S>
         ensures estimator { result.searcher.estimator ≡ estimator }
         ensures store { result.searcher.store ≡ store }

@@ -59,10 +59,10 @@ impl<E: Estimator, S: Store> Searcher<E, S> {
             distance: parent.row.distance + 1,
             estimate,
         });
-        match entered {
-            Ok(row) => Ok(Some(Entered { row, estimate })),
-            Err(_) => Err(StoreFull),
-        }
+        let Ok(row) = entered else {
+            unreachable!();
+        };
+        Ok(Some(Entered { row, estimate }))
     }
 
     // Makes the state the only row.
@@ -93,6 +93,7 @@ impl<E: Estimator, S: Store> Searcher<E, S> {
             unreachable!();
         };
         let far = at.distance;
+        // from the end, since a row says only which row comes before it
         for d in (0..far).rev() {
             out[d as usize] = at.action;
             let Some(parent) = self.store.row(at.parent) else {

@@ -1,6 +1,6 @@
 use Rattle.std.proofs.Common.{length, Some, Ok, ap, ◌∙◌, arith}
 use Rattle.engine.specs.Answers.{exhausted}
-use Rattle.engine.proofs.Bests.{run_sound, sound_good, good_taken, turn_made, turn_sound, turn_found, turn_room, run_empty, spent_at, turned, full_at, found_at}
+use Rattle.engine.proofs.Bests.{run_sound, sound_taken, turn_made, turn_sound, turn_found, turn_room, run_empty, spent_at, turned, full_at, found_at}
 use Rattle.engine.proofs.Gens.{handed_on}
 use Rattle.engine.proofs.planner.Planner.run.Goals as goal
 
@@ -11,18 +11,18 @@ returns-in_err-count_one-clause-answer g c =
 
 pub unreachable-requires : goal.unreachable-requires
 unreachable-requires g c =
-    let k = good_taken _ _ _ _ (sound_good (run_sound c.loop-entry.invariant.so_far)) c.in-Some.ensures.change in
+    let k = sound_taken (run_sound c.loop-entry.invariant.so_far) c.in-Some.ensures.change in
     omega (arith, k.there, c.in_default-row.ensures.found)
 
 pub invariant_of-parent : goal.invariant_of-parent
 invariant_of-parent g c =
     let inv = c.loop-entry.invariant in
-    let k = good_taken _ _ _ _ (sound_good (run_sound inv.so_far)) c.in-Some.ensures.change in
+    let k = sound_taken (run_sound inv.so_far) c.in-Some.ensures.change in
     let few = g.met.S.Store.few c.loop-entry.self.searcher.store in
     record { near = omega (arith, k.near, ap (λ r. r.distance) c.in-Some-row.ensures.found.1, few, inv.store_room, c.requires.places.1) }
 
 pub expand-requires-clause-fits : goal.expand-requires-clause-fits
-expand-requires-clause-fits g c = (good_taken _ _ _ _ (sound_good (run_sound c.loop-entry.invariant.so_far)) c.in-Some.ensures.change).fewer
+expand-requires-clause-fits g c = (sound_taken (run_sound c.loop-entry.invariant.so_far) c.in-Some.ensures.change).fewer
 
 pub returns-in_err-reached-clause-answer : goal.returns-in_err-reached-clause-answer
 returns-in_err-reached-clause-answer g c =

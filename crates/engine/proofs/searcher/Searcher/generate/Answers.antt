@@ -15,8 +15,8 @@ returns-then-count-places-clause-change g c =
     let to = c.in-Some.ensures.result in
     full_at _ _ _ _ _ c.requires.is _ c.in-Some.state to.0 to.1 _ c.in_default-find.ensures.found (omega arith)
 
-pub returns-in-Ok-clause-change : goal.returns-in-Ok-clause-change
-returns-in-Ok-clause-change g c =
+pub returns-clause-change : goal.returns-clause-change
+returns-clause-change g c =
     let to = c.in-Some.ensures.result in
     let en = c.in-Ok.ensures in
     enters_at _ _ _ _ _ c.requires.is _ c.in-Some.state to.0 to.1 c.in_default-find.ensures.found en.change.1 _ c.estimate-estimate.ensures.steps _ en.change.3 _ en.change.2
