@@ -32,6 +32,7 @@ pub fn read_all<S: Store>(heap: Global, store: &S) -> Result<Vec<Row>, AllocErro
     ensures made { IfOk result (λ v. v.items ≡ take numbered (S.rows store.now)) }
 {
     let mut rows = Vec::with_capacity(heap, store.count().min(NUMBERED))?;
+    // A store is asked by number, and has no list to go over.
     for number in 0..=u16::MAX {
         match store.row(number) {
             Some(row) => rows.push_reserved(row),

@@ -1,5 +1,5 @@
 // A closed list that is looked through from its first row on.
-ghost use Rattle.std.specs.Prelude.{◌≡◌, [], IfOk};
+ghost use Rattle.std.specs.Prelude.{◌≡◌, [], IfOk, vec_capacity};
 ghost use Rattle.closed_list.specs.Linked.{rows_of};
 ghost use Rattle.closed_list.specs.Rows.{Different, Find};
 ghost use Rattle.std.proofs.Math.Logic.{∥∥₁_elim};
@@ -22,7 +22,7 @@ pub struct ScannedStore {
 
 impl ScannedStore {
     pub fn new(heap: Global, places: u16) -> Result<ScannedStore, AllocError>
-        ensures made { IfOk result (λ s. (rows_of s.table.entries.items ≡ []) × (s.table.places ≡ places)) }
+        ensures made { IfOk result (λ s. (rows_of s.table.entries.items ≡ []) × (vec_capacity s.table.entries ≡ places)) }
     {
         Ok(ScannedStore {
             table: Table::new(heap, places)?,
@@ -43,7 +43,7 @@ impl ScannedStore {
 impl Store for ScannedStore {
     ghost rows = { λ s. rows_of s.table.entries.items };
 
-    ghost room = { λ s. s.table.places };
+    ghost room = { λ s. vec_capacity s.table.entries };
 
     ghost few = { Prim.search (rules, length-map) };
 

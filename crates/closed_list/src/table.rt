@@ -15,20 +15,17 @@ pub struct Linked<L> {
 
 #[derive(Drop)]
 pub struct Table<L> {
+    // Its capacity is the number of places.
     entries: Vec<Linked<L>>,
-    places: usize,
-    ghost few: { vec_len entries ≤ places },
-    ghost reserved: { places ≤ vec_capacity entries },
-    ghost numbered: { places < 2 ^ 16 },
+    ghost numbered: { vec_capacity entries < 2 ^ 16 },
 }
 
 impl<L: Copy + Drop> Table<L> {
     pub fn new(heap: Global, places: u16) -> Result<Table<L>, AllocError>
-        ensures made { IfOk result (λ t. (t.entries.items ≡ []) × (t.places ≡ places)) }
+        ensures made { IfOk result (λ t. (t.entries.items ≡ []) × (vec_capacity t.entries ≡ places)) }
     {
-        let places = usize::from(places);
-        let entries = Vec::with_capacity(heap, places)?;
-        Ok(Table { entries, places })
+        let entries = Vec::with_capacity(heap, usize::from(places))?;
+        Ok(Table { entries })
     }
 
     pub fn entries(&self) -> &[Linked<L>]
@@ -46,11 +43,11 @@ impl<L: Copy + Drop> Table<L> {
 
     // Adds a row under the next number, unless every place is taken.
     pub fn push(&mut self, row: Row, link: L) -> Result<u16, Refusal>
-        ensures change { Pushed self.old.places self.old.entries.items (record { row = row; link = link }) result self.new.entries.items }
-        ensures same { self.new.places ≡ self.old.places }
+        ensures change { Pushed (vec_capacity self.old.entries) self.old.entries.items (record { row = row; link = link }) result self.new.entries.items }
+        ensures same { vec_capacity self.new.entries ≡ vec_capacity self.old.entries }
     {
         let number = self.entries.len();
-        if number == self.places {
+        if number == self.places() {
             return Err(Refusal::Full);
         }
         self.entries.push_reserved(Linked { row, link });
@@ -59,14 +56,14 @@ impl<L: Copy + Drop> Table<L> {
 
     pub fn clear(&mut self)
         ensures change { self.new.entries.items ≡ [] }
-        ensures same { self.new.places ≡ self.old.places }
+        ensures same { vec_capacity self.new.entries ≡ vec_capacity self.old.entries }
     {
         self.entries.clear();
     }
 
     pub fn places(&self) -> usize
-        ensures value { result ≡ self.now.places }
+        ensures value { result ≡ vec_capacity self.now.entries }
     {
-        self.places
+        self.entries.capacity()
     }
 }

@@ -178,6 +178,7 @@ impl<E: Estimator, S: Store> Searcher<E, S> {
     {
         let mut from = start;
         let mut len = 0u16;
+        // it counts nothing, and ends in the middle of a stretch
         'stretches: loop {
             let Ok(end) = self.leg(problem, from, expansions) else {
                 return None;

@@ -19,7 +19,7 @@ use heuristic::{Estimate, Estimator};
 use open_list::Frontier;
 use strips::Task;
 
-// An estimator with the two tables of a search.
+// An estimator with the two tables of a search. Any tables will do: each plan call checks whether their places serve, so the type asks for nothing.
 #[derive(Drop)]
 pub struct Planner<E, F, S> {
     pub searcher: Searcher<E, S>,

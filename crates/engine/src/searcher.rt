@@ -1,4 +1,5 @@
 // Rows with their estimates: the step that both phases are made of.
+// An action comes beside its number: a struct of the two with their task would be made for each action only to be taken apart.
 ghost use Rattle.std.specs.Prelude.{◌≡◌, ℕ, ◌<◌, ◌≤◌, [], ◌∷◌, length, take};
 ghost use Rattle.heuristic.specs.declared.estimate.Estimate.TheVariants.{Steps};
 ghost use Rattle.closed_list.specs.Rows.{row as row_at};
@@ -45,6 +46,7 @@ impl<E: Estimator, S: Store> Searcher<E, S> {
         if let Some(_) = self.store.find(&state) {
             return Ok(None);
         }
+        // before the estimate, which would be for nothing
         if self.store.count() == self.store.places() {
             return Err(StoreFull);
         }

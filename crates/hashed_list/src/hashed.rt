@@ -1,4 +1,4 @@
-ghost use Rattle.std.specs.Prelude.{◌≡◌, ℕ, ◌+◌, ◌≤◌, [], IfOk, None, vec_len, slice_index_or};
+ghost use Rattle.std.specs.Prelude.{◌≡◌, ℕ, ◌+◌, ◌≤◌, [], IfOk, None, vec_len, slice_index_or, vec_capacity};
 ghost use Rattle.closed_list.specs.Linked.{links_of, rows_of};
 ghost use Rattle.closed_list.specs.Rows.{Different, Find};
 ghost use Rattle.hashed_list.specs.Buckets.{Heads, Links, bucket as state_bucket};
@@ -18,7 +18,7 @@ pub struct HashedStore {
     table: Table<Option<u16>>,
     // of each bucket, its latest row
     heads: Vec<Option<u16>>,
-    // the bits of a digest that say the bucket
+    // the bits of a digest that say the bucket, so that no call computes them from the length
     mask: usize,
     ghost wide: { vec_len heads ≡ mask + 1 },
     ghost latest_of_bucket: { Heads mask (rows_of table.entries.items) heads.items },
@@ -28,7 +28,7 @@ pub struct HashedStore {
 
 impl HashedStore {
     pub fn new(heap: Global, places: u16) -> Result<HashedStore, AllocError>
-        ensures made { IfOk result (λ s. (rows_of s.table.entries.items ≡ []) × (s.table.places ≡ places)) }
+        ensures made { IfOk result (λ s. (rows_of s.table.entries.items ≡ []) × (vec_capacity s.table.entries ≡ places)) }
     {
         let table = Table::new(heap, places)?;
         // Twice the places, so that a bucket has few rows; a power of two, so that a mask picks it.
@@ -82,7 +82,7 @@ fn reset(heads: &mut Vec<Option<u16>>, entries: &[Linked<Option<u16>>], mask: us
 impl Store for HashedStore {
     ghost rows = { λ s. rows_of s.table.entries.items };
 
-    ghost room = { λ s. s.table.places };
+    ghost room = { λ s. vec_capacity s.table.entries };
 
     ghost few = { Prim.search (rules, length-map) };
 
