@@ -5,7 +5,6 @@ use commands::Console;
 use console_lines::Reply;
 use engine::Planner;
 use hashed_list::HashedStore;
-use input_lines::next_line;
 use ordered_open_list::WeightedFrontier;
 use relaxed::RelaxedGraph;
 use session::Session;
@@ -20,8 +19,6 @@ const PLACES: u16 = 512;
 
 const SESSION: u16 = 1;
 
-const LINE_END: u8 = 10;
-
 // Answers each line as it comes.
 fn converse(rt: &HostRuntime, task: &Task) -> anyhow::Result<()> {
     let frontier = WeightedFrontier::new(rt.alloc(), usize::from(PLACES))?;
@@ -30,15 +27,9 @@ fn converse(rt: &HostRuntime, task: &Task) -> anyhow::Result<()> {
         session: Session::open(task, SESSION),
         planner: Planner::new(RelaxedGraph::new(), frontier, store),
     };
-    let mut input = BufReader::new(rt.alloc(), rt.stdin())?;
-    let mut bytes = Vec::new(rt.alloc());
-    for _ in 0..u64::MAX {
-        bytes.clear();
-        input.read_until(LINE_END, &mut bytes)?;
-        let Some((line, _)) = next_line(&bytes) else {
-            break;
-        };
-        let reply = console.respond(line);
+    let input = BufReader::new(rt.alloc(), rt.stdin())?;
+    for line in input.split(rt.alloc(), b'\n') {
+        let reply = console.respond(&line?);
         println!(rt; "{reply}")?;
     }
     Ok(())
@@ -46,13 +37,10 @@ fn converse(rt: &HostRuntime, task: &Task) -> anyhow::Result<()> {
 
 // Reads `yard.tsk`, which counts as empty where it cannot be read, and then standard input. A refused task is told, and nothing else.
 pub fn run(rt: &HostRuntime) -> anyhow::Result<()> {
-    let file = match fs::read(rt, "yard.tsk") {
-        Ok(bytes) => bytes,
-        Err(_) => Vec::new(rt.alloc()),
-    };
+    let file = fs::read(rt, "yard.tsk").unwrap_or_else(|_| Vec::new(rt.alloc()));
     let used = file.len().min(MOST_BYTES);
     let mut task = Task::new(rt.alloc())?;
-    if let Err(fault) = task.read(&file[0..used]) {
+    if let Err(fault) = task.read(&file[..used]) {
         let reply = Reply::Task {
             cause: fault.cause.number(),
             record: fault.record,
