@@ -18,14 +18,14 @@ pub struct Console<'t, E, F, S> {
     pub planner: Planner<E, F, S>,
 }
 
-// How an order is answered.
+// How an order is answered. A closure in its place would need a `requires` that it takes the slip of the order just issued.
 #[derive(Clone, Copy)]
 pub(crate) enum Report {
     Done,
     NotDone,
 }
 
-// The line of a refusal.
+// The line of a refusal. No `From` may stand here, nor for a verdict: both types are of other crates.
 fn refused(refusal: Refusal) -> Reply
     ensures line { result ≡ Reply.Refused (refusal_number refusal) }
 {
