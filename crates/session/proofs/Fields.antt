@@ -14,7 +14,7 @@ use Rattle.engine.specs.declared.model.Verdict.TheVariants as verdicts
 use Rattle.session.specs.Account.{account_of, any, first, held_as, holds, kept, names, out_as, remaining, ruling}
 use Rattle.session.specs.Histories.{Asking, Replied, answers, done, issue, moved, planned, refused, reply, rest, settled}
 use Rattle.session.specs.Opening.{next}
-use Rattle.session.specs.Standing.{Counts, account}
+use Rattle.session.specs.Standing.{account}
 use Rattle.session.specs.Verdicts.{length_for, phase_for}
 use Rattle.session.specs.declared.model.Call.{Call}
 use Rattle.session.specs.declared.model.Call.TheVariants.{Report, Issue}
@@ -131,12 +131,3 @@ kept_said s g v f l e d = subst (λ (f : Phase). kept s g f l ≡ account_of s g
 pub planned_moves : (s : Session) (q : Asking) (n m : ℕ) (v : Verdict) (f : Phase) (l : List ℕ) → f ≡ phase_for v → length l ≡ length_for v
     → kept s.state.words s.goals.words f l ≡ moved s.task.now (account s) (planned q (answers (record { answer = said v l; hill = n; fallback = m })))
 planned_moves s q n m v f l e d = kept_said s.state.words s.goals.words v f l e d
-
-pub counted : (s g : State) (v : Verdict) (f : Phase) (l : List ℕ) → f ≡ phase_for v → length l ≡ length_for v → Counts v (kept s g f l)
-counted s g v f l e d = subst (λ (z : Phase). Counts v (kept s g z l)) (sym e) (count v d)
-  where
-    count : (v : Verdict) → length l ≡ length_for v → Counts v (kept s g (phase_for v) l)
-    count (verdicts.Plan n) d = sym d
-    count verdicts.None d = tt
-    count verdicts.Spent d = tt
-    count verdicts.Full d = tt

@@ -3,7 +3,6 @@ pub mod Laws
 pub mod Fields
 pub mod Opening
 pub mod Here
-pub mod Calling
 pub mod Planning
 pub mod Shown
 pub mod Written
