@@ -1,3 +1,5 @@
+ghost use Rattle.std.specs.Prelude.{◌<◌};
+
 use facts::ActionSet;
 use heuristic::{Estimate, Estimator, GoalCount};
 use relaxed::RelaxedGraph;
@@ -20,7 +22,9 @@ enum Field {
 use Field::{Add, Del, Goal, InUse, Initial, Pre};
 
 impl Field {
-    fn place(self) -> usize {
+    fn place(self) -> usize
+        ensures { result < 3 }
+    {
         match self {
             Initial | Pre => 0,
             Goal | Add => 1,
