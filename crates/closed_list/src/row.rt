@@ -18,9 +18,9 @@ pub struct Row {
 #[derive(Clone, Copy, PartialEq, Eq, Debug)]
 pub enum Refusal {
     // a row has the state already
-    Known,
+    Known = 30,
     // there are as many rows as places
-    Full,
+    Full = 31,
 }
 
 impl Refusal {
@@ -28,9 +28,6 @@ impl Refusal {
     pub fn number(&self) -> u8
         ensures value { result ≡ refusal_number self.now }
     {
-        match self {
-            Refusal::Known => 30,
-            Refusal::Full => 31,
-        }
+        *self as u8
     }
 }

@@ -1,5 +1,5 @@
 // Rows in a fixed number of places: what every closed list is made of. Lists differ in how they find.
-ghost use Rattle.std.specs.Prelude.{◌≡◌, ◌^◌, ◌<◌, ◌≤◌, [], length, IfOk, MatchOption, vec_len, vec_capacity};
+ghost use Rattle.std.specs.Prelude.{◌≡◌, ◌^◌, ◌<◌, ◌≤◌, [], length, IfOk, MatchOption, vec_capacity};
 ghost use Rattle.closed_list.specs.Linked.{Pushed, rows_of};
 ghost use Rattle.closed_list.specs.Rows.{row as row_at};
 

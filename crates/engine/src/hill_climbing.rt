@@ -22,10 +22,7 @@ pub const LONGEST: usize = 4095;
 fn is_wanted(liked: &Option<ActionSet>, k: u16) -> bool
     ensures { result ≡ wanted liked.now k }
 {
-    match liked {
-        Some(set) => set.contains(k),
-        None => true,
-    }
+    liked.as_ref().is_none_or(|set| set.contains(k))
 }
 
 impl<E: Estimator, S: Store> Searcher<E, S> {
@@ -45,7 +42,7 @@ impl<E: Estimator, S: Store> Searcher<E, S> {
         }
     }
 
-    // Tries action k in the state of the row that is taken up.
+    // Tries action k in the state of the row that is taken up. It parts from what the other phase does once a row is entered.
     fn attempt(
         &mut self,
         problem: Problem<'_>,
@@ -107,6 +104,7 @@ impl<E: Estimator, S: Store> Searcher<E, S> {
         ensures same { S.room self.new.store ≡ S.room self.old.store }
         ensures budget { expansions.new.budget ≡ expansions.old.budget }
     {
+        // by number, since rows are entered meanwhile
         for number in 0..self.store.places() as u16 {
             let Some(row) = self.store.row(number) else {
                 return Ok(None);

@@ -94,13 +94,13 @@ impl From<Result<Option<u16>, Halt>> for Verdict {
 #[derive(Clone, Copy, PartialEq, Eq, Debug)]
 pub enum Refusal {
     // the state or the goal has a fact that is not in use
-    OutsideFacts,
+    OutsideFacts = 6,
     // the closed list has no place, or over 4,096
-    StorePlaces,
+    StorePlaces = 7,
     // the open list has fewer places than the closed list
-    FrontierPlaces,
+    FrontierPlaces = 8,
     // a budget is over 1,000,000
-    Budget,
+    Budget = 9,
 }
 
 impl Refusal {
@@ -108,11 +108,6 @@ impl Refusal {
     pub fn number(&self) -> u8
         ensures value { result ≡ refusal_number self.now }
     {
-        match self {
-            Refusal::OutsideFacts => 6,
-            Refusal::StorePlaces => 7,
-            Refusal::FrontierPlaces => 8,
-            Refusal::Budget => 9,
-        }
+        *self as u8
     }
 }

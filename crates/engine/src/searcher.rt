@@ -95,7 +95,7 @@ impl<E: Estimator, S: Store> Searcher<E, S> {
             unreachable!();
         };
         let far = at.distance;
-        // from the end, since a row says only which row comes before it
+        // from the end, since a row says only which row comes before it; no proof is had over a reversed iterator that writes
         for d in (0..far).rev() {
             out[d as usize] = at.action;
             let Some(parent) = self.store.row(at.parent) else {

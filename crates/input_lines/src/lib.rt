@@ -1,4 +1,4 @@
-// The lines of an input, and the numbers in them, as every program here reads them.
+// The lines of an input, and the numbers in them.
 #![tactic(auto)]
 
 mod cutting;

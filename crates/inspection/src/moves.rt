@@ -7,7 +7,7 @@ use facts::FactSet;
 use std::fmt;
 use strips::Task;
 
-// What came of a line of input.
+// What came of a line of input: a line that is printed, in each of three cases.
 #[derive(Clone, Copy, PartialEq, Eq, Debug)]
 pub enum Move {
     // the action was carried out

@@ -6,21 +6,21 @@ ghost use Rattle.planfile.specs.declared.answer.Fault.TheVariants.{Refused};
 #[derive(Clone, Copy, PartialEq, Eq, Debug)]
 pub enum Refusal {
     // the start or the goal has a fact that is not in use
-    OutsideFacts,
+    OutsideFacts = 6,
     // the bytes are no whole number of records, or there are more records than a plan file may have
-    FileSize,
+    FileSize = 10,
     // the buffer cannot hold the file
-    BufferTooShort,
+    BufferTooShort = 11,
 }
 
 // What is wrong with a record, or with the end of a file.
 #[derive(Clone, Copy, PartialEq, Eq, Debug)]
 pub enum Flaw {
-    NoSuchAction,
-    PreconditionFalse,
+    NoSuchAction = 1,
+    PreconditionFalse = 2,
     // the action leads to another state than the record has
-    StateDiffers,
-    GoalsFalse,
+    StateDiffers = 3,
+    GoalsFalse = 4,
 }
 
 // Why a file is not that of a plan, or why nothing was written.
@@ -44,11 +44,7 @@ impl Refusal {
     pub fn number(&self) -> u8
         ensures { result ≡ refusal_number self.now }
     {
-        match self {
-            Refusal::OutsideFacts => 6,
-            Refusal::FileSize => 10,
-            Refusal::BufferTooShort => 11,
-        }
+        *self as u8
     }
 }
 
@@ -57,11 +53,6 @@ impl Flaw {
     pub fn number(&self) -> u8
         ensures { result ≡ flaw_number self.now }
     {
-        match self {
-            Flaw::NoSuchAction => 1,
-            Flaw::PreconditionFalse => 2,
-            Flaw::StateDiffers => 3,
-            Flaw::GoalsFalse => 4,
-        }
+        *self as u8
     }
 }

@@ -60,21 +60,21 @@ pub(crate) enum Call {
 #[derive(Clone, Copy, PartialEq, Eq, Debug)]
 pub enum Refusal {
     // a set has a fact that is not in use
-    OutsideFacts,
+    OutsideFacts = 6,
     // the closed list has no place, or over 4,096
-    StorePlaces,
+    StorePlaces = 7,
     // the open list has fewer places than the closed list
-    FrontierPlaces,
+    FrontierPlaces = 8,
     // a budget is over 1,000,000
-    Budget,
+    Budget = 9,
     // the buffer cannot hold the plan file
-    BufferTooShort,
+    BufferTooShort = 11,
     // an order is out
-    OrderOut,
+    OrderOut = 20,
     // the slip is of another session or action, or no order is out
-    WrongSlip,
+    WrongSlip = 21,
     // there is no action to issue, or no plan to write
-    NothingToGive,
+    NothingToGive = 22,
 }
 
 // A refusal of the plan call, as the session tells it.
@@ -96,15 +96,6 @@ impl Refusal {
     pub fn number(&self) -> u8
         ensures value { result ≡ refusal_number self.now }
     {
-        match self {
-            Refusal::OutsideFacts => 6,
-            Refusal::StorePlaces => 7,
-            Refusal::FrontierPlaces => 8,
-            Refusal::Budget => 9,
-            Refusal::BufferTooShort => 11,
-            Refusal::OrderOut => 20,
-            Refusal::WrongSlip => 21,
-            Refusal::NothingToGive => 22,
-        }
+        *self as u8
     }
 }

@@ -6,15 +6,15 @@ ghost use Rattle.strips.specs.Records.{fault};
 #[derive(Clone, Copy, PartialEq, Eq, Debug)]
 pub enum Cause {
     // the length is 0 or no multiple of a record's
-    Length,
+    Length = 1,
     // there are more records than a task may have
-    TooManyRecords,
+    TooManyRecords = 2,
     // a set of record 0 has a fact that is not in use
-    HeaderOutside,
+    HeaderOutside = 3,
     // a set of an action has a fact that is not in use
-    ActionOutside,
+    ActionOutside = 4,
     // an action adds and deletes one fact
-    AddsAndDeletes,
+    AddsAndDeletes = 5,
 }
 
 // The first check that a task file fails, with the record and the field that fail it. Field 3 is the record as a whole.
@@ -39,16 +39,10 @@ impl Fault {
 }
 
 impl Cause {
-    // The number under which the cause is reported. The method's name says what the number is; `u8::from` would not.
+    // The number under which the cause is reported.
     pub fn number(&self) -> u8
         ensures { result ≡ cause_number self.now }
     {
-        match self {
-            Cause::Length => 1,
-            Cause::TooManyRecords => 2,
-            Cause::HeaderOutside => 3,
-            Cause::ActionOutside => 4,
-            Cause::AddsAndDeletes => 5,
-        }
+        *self as u8
     }
 }
