@@ -16,7 +16,7 @@ const ROWS: u16 = 4096;
 // rows of the store that is cleared with little in it
 const FEW: u16 = 16;
 
-// The bits of a number as facts in all words, so that each number has a state of its own.
+// The bits of a number as facts in all words, so that each number has a state of its own. The tests of closed lists have these lines too, for which a crate would be more to read.
 fn numbered(number: u16) -> FactSet {
     let mut state = FactSet::empty();
     for bit in 0..16u8 {

@@ -1,3 +1,4 @@
+// The console; four crates have it, one for each input that it is run on.
 #![tactic(auto)]
 
 fn main(rt: HostRuntime) -> anyhow::Result<()> {

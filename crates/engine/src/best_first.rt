@@ -43,11 +43,14 @@ impl<E: Estimator, F: Frontier, S: Store> Planner<E, F, S> {
         if estimate == 0 {
             return Ok(Some(entered.row));
         }
-        let _ = self.frontier.put(Entry {
+        let put = self.frontier.put(Entry {
             row: entered.row,
             estimate,
             distance: parent.row.distance + 1,
         });
+        if put.is_err() {
+            unreachable!();
+        }
         Ok(None)
     }
 
@@ -120,11 +123,14 @@ impl<E: Estimator, F: Frontier, S: Store> Planner<E, F, S> {
     {
         self.searcher.fresh(start);
         self.frontier.clear();
-        let _ = self.frontier.put(Entry {
+        let put = self.frontier.put(Entry {
             row: 0,
             estimate: start.steps,
             distance: 0,
         });
+        if put.is_err() {
+            unreachable!();
+        }
         self.run(problem, expansions, out)
     }
 }

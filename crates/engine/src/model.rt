@@ -15,7 +15,7 @@ pub(crate) struct Problem<'t> {
     pub goal: &'t FactSet,
 }
 
-// A state with its estimate.
+// A state with its estimate. That it is the estimate stands in the contracts, since it is that of an estimator for a task and a goal.
 #[derive(Clone, Copy)]
 pub(crate) struct Start {
     pub state: FactSet,

@@ -74,13 +74,16 @@ impl<E: Estimator, S: Store> Searcher<E, S> {
         ensures same { S.room self.new.store ≡ S.room self.old.store }
     {
         self.store.clear();
-        let _ = self.store.enter(Row {
+        let entered = self.store.enter(Row {
             state: start.state,
             parent: 0,
             action: 0,
             distance: 0,
             estimate: Estimate::Steps(start.steps),
         });
+        if entered.is_err() {
+            unreachable!();
+        }
     }
 
     // Writes the actions on the way to row j, and answers how many there are.

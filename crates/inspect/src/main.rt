@@ -62,6 +62,7 @@ fn main(rt: HostRuntime) -> anyhow::Result<()> {
     let file = fs::read(&rt, "yard.tsk").unwrap_or_else(|_| Vec::new(rt.alloc()));
     let mut task = Task::new(rt.alloc())?;
     if let Err(fault) = task.read(&file) {
+        // The other programs have this line among lines of their own.
         println!(rt; "task {} {}", fault.cause.number(), fault.record)?;
         return Ok(());
     }

@@ -27,7 +27,7 @@ fn list(text: &mut String, set: &ActionSet, count: u16) -> Result<(), AllocError
     Ok(())
 }
 
-// The line of an estimator for a state and a goal: name, estimate and preferred actions.
+// The line of an estimator for a state and a goal: name, estimate and preferred actions. Four of the parameters are those of an estimate.
 pub fn describe<E: Estimator>(
     heap: Global,
     name: &str,

@@ -5,6 +5,7 @@ ghost use Rattle.open_list.specs.declared.entry.Entry.{Entry as AnEntry};
 
 use open_list::Entry;
 
+// A trait beside `Rank`, since a heap's item at a type parameter has to be bounded by name.
 pub trait Key: Ord + Drop {
     ghost of: { Self → AnEntry };
 

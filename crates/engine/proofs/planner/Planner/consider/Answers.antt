@@ -19,4 +19,4 @@ returns-then-estimate-eq0-clause-change g c = reached (rw c.in-Some.is at c.in_o
 pub returns-clause-change : goal.returns-clause-change
 returns-clause-change g c =
     let fits : length (g.F.Frontier.waiting c.args.self.now.frontier) < g.F.Frontier.room c.args.self.now.frontier = omega (arith, g.met.S.Store.few c.args.self.now.searcher.store) in
-    waits (rw c.in-Some.is at c.in_ok-entered.ensures.change) c.in-Steps.is (omega arith) (put_done _ _ _ _ _ fits c.put.ensures.change)
+    waits (rw c.in-Some.is at c.in_ok-entered.ensures.change) c.in-Steps.is (omega arith) (put_done _ _ _ _ _ fits c.put-put.ensures.change)

@@ -10,7 +10,7 @@ run-requires-clause-begun g c =
     let h = c.args.start.steps in
     let none-waits : length w₀ ≡ 0 = ap length c.clear.ensures.change in
     let lt : length w₀ < g.F.Frontier.room c.clear.new.self = omega (arith, c.clear.ensures.same, c.requires.places.0, c.requires.holds) in
-    let waits = put_done (g.F.Frontier.room c.clear.new.self) w₀ (entry 0 h 0) c.put.result (g.F.Frontier.waiting c.put.new.self) lt c.put.ensures.change in
+    let waits = put_done (g.F.Frontier.room c.clear.new.self) w₀ (entry 0 h 0) c.put-put.result (g.F.Frontier.waiting c.put-put.new.self) lt c.put-put.ensures.change in
     rw c.requires.begun
     (begun _ _ c.args.start.state h _ _ c.requires.told c.requires.above c.fresh.ensures.rows
-    (subst (λ w. IsPermutation (entry 0 h 0 ∷ w) (g.F.Frontier.waiting c.put.new.self)) c.clear.ensures.change waits))
+    (subst (λ w. IsPermutation (entry 0 h 0 ∷ w) (g.F.Frontier.waiting c.put-put.new.self)) c.clear.ensures.change waits))
