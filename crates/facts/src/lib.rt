@@ -7,4 +7,4 @@ mod set;
 mod words;
 
 pub use iter::Iter;
-pub use set::{ActionSet, BYTES, BitSet, FactSet, Number, WORDS};
+pub use set::{ActionSet, BYTES, BitSet, FACTS, FactSet, Number, WORDS};

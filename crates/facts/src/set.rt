@@ -13,6 +13,9 @@ const ACTION_WORDS: usize = 8;
 
 pub const BYTES: usize = 32;
 
+// how many facts there can be
+pub const FACTS: usize = 256;
+
 // What names a member: a fact or an action.
 pub trait Number: Copy {
     ghost number: { Self → ℕ };

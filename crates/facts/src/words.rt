@@ -131,7 +131,7 @@ fn byte_at(words: &[u64], k: usize) -> u8
     requires { k / 8 < length words.now }
     ensures { result ≡ slice_index words.now (k / 8) / 2 ^ (8 * (k % 8)) % 256 }
 {
-    ((words[k / WORD_BYTES] >> (8 * (k % WORD_BYTES))) & 0xff) as u8
+    words[k / WORD_BYTES].to_le_bytes()[k % WORD_BYTES]
 }
 
 // Writes the words into a field of as many bytes.

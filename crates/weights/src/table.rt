@@ -1,10 +1,8 @@
 ghost use Rattle.std.specs.Prelude.{◌≡◌, length, replicate};
 ghost use Rattle.weights.specs.Tables.{fact_count};
 
+use facts::FACTS;
 use heuristic::Estimate;
-
-// how many facts there are
-pub(crate) const FACTS: usize = 256;
 
 // The weights of the facts. An estimate works in this table, so that it allocates nothing; what it held before does not matter.
 #[derive(Drop)]
