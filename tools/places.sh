@@ -1,6 +1,6 @@
 #!/bin/sh
 # Lists the places that docs/DESIGN-PASS.md counts, a heading for each point. Run at the top of the repository.
-src="$(find crates -path '*/src/*.rt' | grep -v '_tests/\|/worked' | sort)"
+src="$(git ls-files crates | grep '/src/.*\.rt$' | grep -v '_tests/\|/worked' | sort)"
 
 echo "== 1. own enums; refusals and kinds as numbers; flags beside a value"
 grep -nE '^ *(pub(\(crate\))? )?enum ' $src
@@ -33,6 +33,7 @@ echo "== 7. switches on the step to run, tables of functions"
 grep -nE 'all: bool|: fn\(|dyn |Box<' $src
 
 echo "== 8. answers and lemmas"
-find crates -path '*/proofs/*' -name '*.antt' | xargs cat | wc -l
-find crates -path '*/proofs/*' -name Answers.antt | wc -l
-grep -rhoE '^pub [A-Za-z_-]+ : goal|^pub [A-Za-z_-]+ : ' crates/*/proofs --include=Answers.antt | wc -l
+proofs="$(git ls-files crates | grep '/proofs/.*\.antt$')"
+cat $proofs | wc -l
+echo "$proofs" | grep -c '/Answers.antt$'
+echo "$proofs" | grep '/Answers.antt$' | xargs grep -hoE '^pub [A-Za-z_-]+ : ' | wc -l
