@@ -55,9 +55,7 @@ fn check_refused(rt: &(impl Abort + AllocGlobal), task: &Task, call: Attempt) ->
         Ok(_) => return Err(Fail::new("not refused")),
         Err(refusal) => assert_eq!(rt; refusal.number(), call.number),
     }
-    for left in buffer.iter() {
-        assert_eq!(rt; *left, MARK);
-    }
+    assert!(rt; buffer.iter().all(|left| *left == MARK));
     assert_eq!(rt;
         planner.searcher.store.count(),
         usize::from(call.places.min(1))

@@ -90,18 +90,15 @@ pub fn case(
 
 // The list stands at the front where there is a plan, and all else in the buffer is as it was.
 fn check_buffer(rt: &impl Abort, buffer: &[u16], list: &[u16], verdict: Verdict) {
-    let mut len = 0;
+    let mut found = &list[..0];
     if let Verdict::Plan(count) = verdict {
         assert_eq!(rt; usize::from(count), list.len());
-        len = list.len();
+        found = list;
     }
-    for (i, left) in buffer.iter().enumerate() {
-        if i < len {
-            assert_eq!(rt; *left, list[i]);
-        } else {
-            assert_eq!(rt; *left, MARK);
-        }
-    }
+    assert!(rt; found.len() <= buffer.len());
+    let (front, rest) = buffer.split_at(found.len());
+    assert!(rt; front == found);
+    assert!(rt; rest.iter().all(|left| *left == MARK));
 }
 
 // Makes the calls; `list` is what those that answer plan find.
