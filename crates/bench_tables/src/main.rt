@@ -2,6 +2,8 @@
 // the same; standard error has the times.
 #![tactic(auto)]
 
+ghost use Rattle.std.specs.Prelude.{◌≤◌, length};
+
 use closed_list::{Row, ScannedStore, Store, enter_all};
 use facts::FactSet;
 use hashed_list::HashedStore;
@@ -40,7 +42,9 @@ fn rows_from(heap: Global, first: u16, count: u16) -> Result<Vec<Row>, AllocErro
         .collect(heap)
 }
 
-fn count_found<S: Store>(store: &S, rows: &[Row]) -> usize {
+fn count_found<S: Store>(store: &S, rows: &[Row]) -> usize
+    ensures { result ≤ length rows.now }
+{
     rows.iter()
         .filter(|row| store.find(&row.state).is_some())
         .count()

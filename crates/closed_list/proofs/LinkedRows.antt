@@ -1,8 +1,7 @@
 -- The rows of entries that are looked through, and of entries with one more at the end.
-use Rattle.std.proofs.Common.{◌≡◌, ℕ, ◌<◌, false, List, [], ◌∷◌, ◌++◌, length, get_or, Some, None, Ok, Err, Option, Result, sym, ap, ◌∙◌, subst, arith}
+use Rattle.std.proofs.Common.{◌≡◌, ℕ, ◌<◌, ◌≤◌, false, List, [], ◌∷◌, ◌++◌, length, get_or, Some, None, Ok, Err, Option, Result, sym, ap, ◌∙◌, subst, arith}
 use Rattle.std.proofs.Math.Logic.{∥∥₁_elim}
 use Rattle.std.proofs.lemmas.List.{get_or-map, length-map, map-append}
-use Rattle.std.specs.List.{AllWithin, HoldsAt}
 use Rattle.std.specs.Option.{MatchOption, is_some}
 use Rattle.strips.specs.Semantics.{State}
 use Rattle.closed_list.specs.declared.row.Refusal.{Refusal}
@@ -27,24 +26,10 @@ rows_push entries e = map-append (λ e. e.row) entries (e ∷ [])
 pub links_push : {L : Type 0} (entries : List (Linked L)) (e : Linked L) → links_of (entries ++ e ∷ []) ≡ links_of entries ++ e.link ∷ []
 links_push entries e = map-append (λ e. e.link) entries (e ∷ [])
 
-abbrev pub Has : {L : Type 0} → State → Linked L → Type 0
-Has s e = e.row.state.words ≡ s
-
-abbrev pub Lacks : {L : Type 0} → State → Linked L → Type 0
-Lacks s e = Has s e → ⊥
-
-absent_all : {L : Type 0} (entries : List (Linked L)) (s : State) → AllWithin (Lacks s) entries 0 (length entries) → Absent (rows_of entries) s
-absent_all [] s none i at = absurd (omega (arith, at.0))
-absent_all (e ∷ es) s none i at =
-    let lt : i < length (e ∷ es) = omega (arith, at.0, length_rows (e ∷ es)) in
-    none i e (omega arith) lt (ap (λ r. r.state.words) (sym (row_at (e ∷ es) i e lt)) ∙ at.1)
-
--- the first entry with the state was looked for
-pub find_first : {L : Type 0} (entries : List (Linked L)) (s : State) (r : Option ℕ) → MatchOption r (AllWithin (Lacks s) entries 0 (length entries)) (λ i. (i < length entries) × HoldsAt (Has s) entries i × AllWithin (Lacks s) entries 0 i) → Find (rows_of entries) s r
-find_first entries s None none = absent_all entries s none
-find_first [] s (Some i) at = absurd (omega (arith, at.0))
-find_first (e ∷ es) s (Some i) at =
-    (omega (arith, at.0, length_rows (e ∷ es)), ap (λ r. r.state.words) (row_at (e ∷ es) i e at.0) ∙ at.1 e)
+-- the numbers of the rows were gone through for the first row that has the state
+pub find_number : (rows : List Row) (s : State) (n : ℕ) (r : Option ℕ) → n ≡ length rows → MatchOption r ((k : ℕ) → 0 ≤ k → k < n → (row rows k).state.words ≡ s → ⊥) (λ i. (0 ≤ i) × (i < n) × ((row rows i).state.words ≡ s) × ((k : ℕ) → 0 ≤ k → k < i → (row rows k).state.words ≡ s → ⊥)) → Find rows s r
+find_number rows s n None all none = λ i at. none i (omega arith) (omega (arith, all, at.0)) at.1
+find_number rows s n (Some i) all at = (omega (arith, all, at.1), at.2)
 
 pub absent_unfound : (rows : List Row) (s : State) (r : Option ℕ) → false ≡ is_some r → Find rows s r → Absent rows s
 absent_unfound rows s None e absent = absent

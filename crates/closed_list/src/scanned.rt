@@ -1,7 +1,7 @@
 // A closed list that is looked through from its first row on.
-ghost use Rattle.std.specs.Prelude.{◌≡◌, [], IfOk, vec_capacity};
+ghost use Rattle.std.specs.Prelude.{◌≡◌, ◌<◌, ◌↔◌, IsTrue, [], length, IfOk, vec_capacity};
 ghost use Rattle.closed_list.specs.Linked.{rows_of};
-ghost use Rattle.closed_list.specs.Rows.{Different, Find};
+ghost use Rattle.closed_list.specs.Rows.{Different, Find, row as row_at};
 ghost use Rattle.std.proofs.Math.Logic.{∥∥₁_elim};
 ghost use Rattle.std.proofs.Math.Nat.{ℕ_set};
 ghost use Rattle.std.proofs.Common.{rules};
@@ -9,7 +9,7 @@ ghost use Rattle.std.proofs.lemmas.List.{length-map};
 
 use crate::row::{Refusal, Row};
 use crate::store::Store;
-use crate::table::Table;
+use crate::table::{Linked, Table};
 use facts::FactSet;
 use std::alloc::{AllocError, Global};
 
@@ -18,6 +18,14 @@ pub struct ScannedStore {
     // The rows need no link.
     table: Table<()>,
     ghost different: { ∥ Different (rows_of table.entries.items) ∥₁ },
+}
+
+// Whether the row of the number has the state.
+fn has_state(entries: &[Linked<()>], number: usize, state: &FactSet) -> bool
+    requires { number < length entries.now }
+    ensures { IsTrue result ↔ ((row_at (rows_of entries.now) number).state.words ≡ state.now.words) }
+{
+    entries[number].row.state == *state
 }
 
 impl ScannedStore {
@@ -29,14 +37,16 @@ impl ScannedStore {
         })
     }
 
-    // The index of the first row with the state.
+    // The index of the first row with the state. It goes over numbers, for a chain over the entries takes an instruction more for each.
     fn first(&self, state: &FactSet) -> Option<usize>
         ensures found { Find (rows_of self.now.table.entries.items) state.now.words result }
     {
-        self.table
-            .entries()
-            .iter()
-            .position(|entry| entry.row.state == *state)
+        let entries = self.table.entries();
+        (0..entries.len()).find(
+            |&number|
+                requires { number < length entries.now }
+            { has_state(entries, number, state) },
+        )
     }
 }
 
@@ -55,7 +65,7 @@ impl Store for ScannedStore {
     }
 
     fn enter(&mut self, row: Row) -> Result<u16, Refusal> {
-        if self.find(&row.state).is_some() {
+        if Self::find(self, &row.state).is_some() {
             return Err(Refusal::Known);
         }
         self.table.push(row, ())

@@ -52,3 +52,38 @@ pub trait Store {
 
     ghost different: { (s : Self) → Different (rows s) };
 }
+
+// A closed list that is lent.
+impl<S: Store> Store for &mut S {
+    ghost rows = { λ s. S.rows s.now };
+
+    ghost room = { λ s. S.room s.now };
+
+    ghost few = { λ s. S.few s.now };
+
+    ghost different = { λ s. S.different s.now };
+
+    fn find(&self, state: &FactSet) -> Option<u16> {
+        (**self).find(state)
+    }
+
+    fn enter(&mut self, row: Row) -> Result<u16, Refusal> {
+        (**self).enter(row)
+    }
+
+    fn row(&self, number: u16) -> Option<Row> {
+        (**self).row(number)
+    }
+
+    fn clear(&mut self) {
+        (**self).clear();
+    }
+
+    fn count(&self) -> usize {
+        (**self).count()
+    }
+
+    fn places(&self) -> usize {
+        (**self).places()
+    }
+}

@@ -3,4 +3,4 @@
 
 mod serve;
 
-pub use serve::Console;
+pub use serve::{Console, respond};

@@ -82,40 +82,55 @@ fn order(session: &mut Session<'_>, report: Report) -> Reply
     }
 }
 
-impl<'t, E: Estimator, F: Frontier, S: Store> Console<'t, E, F, S> {
-    // Carries out the command that a line is.
-    fn carry_out(&mut self, line: &[u8]) -> Reply
-        ensures serves { Serves (record { estimate = E.meaning; prefers = E.prefers; store = S.room self.old.planner.searcher.store; frontier = F.room self.old.planner.frontier }) self.old.session (command line.now) result self.new.session }
-        ensures store_room { S.room self.new.planner.searcher.store ≡ S.room self.old.planner.searcher.store }
-        ensures frontier_room { F.room self.new.planner.frontier ≡ F.room self.old.planner.frontier }
-    {
-        let Some(asked) = parse(line) else {
-            return Reply::Bad;
-        };
-        match asked {
-            Command::Plan { hill, fallback } => {
-                match self
-                    .session
-                    .plan(&mut self.planner, Budgets { hill, fallback })
-                {
-                    Ok((verdict, climbed, tried)) => tell(verdict, climbed, tried),
-                    Err(refusal) => refused(refusal),
-                }
+// Carries out the command that a line is.
+fn carry_out<E: Estimator, F: Frontier, S: Store>(
+    session: &mut Session<'_>,
+    planner: &mut Planner<E, F, S>,
+    line: &[u8],
+) -> Reply
+    ensures serves { Serves (record { estimate = E.meaning; prefers = E.prefers; store = S.room planner.old.searcher.store; frontier = F.room planner.old.frontier }) session.old (command line.now) result session.new }
+    ensures store_room { S.room planner.new.searcher.store ≡ S.room planner.old.searcher.store }
+    ensures frontier_room { F.room planner.new.frontier ≡ F.room planner.old.frontier }
+{
+    let Some(asked) = parse(line) else {
+        return Reply::Bad;
+    };
+    match asked {
+        Command::Plan { hill, fallback } => {
+            match session.plan(planner, Budgets { hill, fallback }) {
+                Ok((verdict, climbed, tried)) => tell(verdict, climbed, tried),
+                Err(refusal) => refused(refusal),
             }
-            Command::Step => order(&mut self.session, Report::Done),
-            Command::Skip => order(&mut self.session, Report::NotDone),
         }
+        Command::Step => order(session, Report::Done),
+        Command::Skip => order(session, Report::NotDone),
     }
+}
 
-    // Answers a line. What holds wherever a history of calls ends holds of the session after it.
+// Answers a line, for a session and a planner that are lent. What holds wherever a history of calls ends holds of the session after it.
+pub fn respond<E: Estimator, F: Frontier, S: Store>(
+    session: &mut Session<'_>,
+    planner: &mut Planner<E, F, S>,
+    line: &[u8],
+) -> Reply
+    ensures serves { Serves (record { estimate = E.meaning; prefers = E.prefers; store = S.room planner.old.searcher.store; frontier = F.room planner.old.frontier }) session.old (command line.now) result session.new }
+    ensures stands { Stands session.new }
+    ensures store_room { S.room planner.new.searcher.store ≡ S.room planner.old.searcher.store }
+    ensures frontier_room { F.room planner.new.frontier ≡ F.room planner.old.frontier }
+{
+    let reply = carry_out(session, planner, line);
+    session.standing();
+    reply
+}
+
+impl<'t, E: Estimator, F: Frontier, S: Store> Console<'t, E, F, S> {
+    // Answers a line, as `respond` does.
     pub fn respond(&mut self, line: &[u8]) -> Reply
         ensures serves { Serves (record { estimate = E.meaning; prefers = E.prefers; store = S.room self.old.planner.searcher.store; frontier = F.room self.old.planner.frontier }) self.old.session (command line.now) result self.new.session }
         ensures stands { Stands self.new.session }
         ensures store_room { S.room self.new.planner.searcher.store ≡ S.room self.old.planner.searcher.store }
         ensures frontier_room { F.room self.new.planner.frontier ≡ F.room self.old.planner.frontier }
     {
-        let reply = self.carry_out(line);
-        self.session.standing();
-        reply
+        respond(&mut self.session, &mut self.planner, line)
     }
 }

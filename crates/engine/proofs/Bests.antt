@@ -159,12 +159,12 @@ begun q budget s h rows w is pos first sh =
 pub searched_from : (est : State → Estimate) (pref : State → ℕ → Bool) (acts : List Action) (m n : ℕ) → m ≡ n → (budget : ℕ) (s t : State) (a : Answer) (k : ℕ) → s ≡ t → Searched (setting est pref acts m) budget s a k → Searched (setting est pref acts n) budget t a k
 searched_from est pref acts m n e budget s t a k f h = subst (λ z. Searched (setting est pref acts n) budget z a k) f (subst (λ z. Searched (setting est pref acts z) budget s a k) e h)
 
--- a waiting entry is taken, with what the count of expansions does
+-- entries wait, with what the count of expansions does
 module _ {q : Setting} {budget : ℕ} {s : State} {rows : List Row} {w : List Entry} {n : ℕ} (r : Explored q budget s rows w n) (budget' : ℕ) (same : budget' ≡ budget) (after : ℕ) where
-  pub spent_at : (e : Entry) (rest : List Entry) → IsPermutation w (e ∷ rest) → (halt : Halt) → Counts budget' n (Err halt) after → (out : List ℕ) → Searched q budget s (said (verdict_of (Err halt)) out) after
-  spent_at e rest m halts.Spent c out =
-      subst (λ z. Searched q budget s spent z) (sym c.1) (out_of_budget r (omega (arith, length_permutation w (e ∷ rest) m)) (c.0 ∙ same))
-  spent_at e rest m halts.Full c out = absurd c
+  pub spent_at : 0 < length w → (halt : Halt) → Counts budget' n (Err halt) after → (out : List ℕ) → Searched q budget s (said (verdict_of (Err halt)) out) after
+  spent_at some halts.Spent c out =
+      subst (λ z. Searched q budget s spent z) (sym c.1) (out_of_budget r some (c.0 ∙ same))
+  spent_at some halts.Full c out = absurd c
 
   module _ (c : Counts budget' n (Ok tt) after) {rows' : List Row} {w' : List Entry} where
     pub turned : Turn q rows w (Ok None) rows' w' → Explored q budget s rows' w' after

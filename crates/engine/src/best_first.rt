@@ -86,8 +86,11 @@ impl<E: Estimator, F: Frontier, S: Store> Planner<E, F, S> {
         ensures store_room { S.room self.new.searcher.store ≡ S.room self.old.searcher.store }
         ensures frontier_room { F.room self.new.frontier ≡ F.room self.old.frontier }
     {
-        while let Some(entry) = self.frontier.take() {
+        while self.frontier.count() != 0 {
             expansions.count_one()?;
+            let Some(entry) = self.frontier.take() else {
+                unreachable!();
+            };
             let Some(row) = self.searcher.store.row(entry.row) else {
                 unreachable!();
             };

@@ -28,3 +28,22 @@ pub trait Estimator {
 
     ghost kept: { Laws meaning prefers };
 }
+
+// An estimator that is lent.
+impl<E: Estimator> Estimator for &mut E {
+    ghost meaning = { E.meaning };
+
+    ghost prefers = { E.prefers };
+
+    ghost kept = { E.kept };
+
+    fn estimate(
+        &mut self,
+        task: &Task,
+        goal: &FactSet,
+        state: &FactSet,
+        preferred: &mut ActionSet,
+    ) -> Estimate {
+        (**self).estimate(task, goal, state, preferred)
+    }
+}

@@ -138,3 +138,12 @@ numeral_of_lt most ds n e =
     let more : 10 ^ length ds ≤ 10 ^ most = pow-le-pow_right (lit< tt) is.few in
     let value = is.value in
     omega arith
+
+-- the same of a number of a command, by any bound on its digits
+pub numeral_lt : (k : ℕ) (ds : List ℕ) (n : ℕ) → length ds ≤ k → numeral ds ≡ Some n → n < 10 ^ k
+numeral_lt k ds n few e =
+    let is = numeral_parts ds n e in
+    let less = worth_lt ds is.digits in
+    let more : 10 ^ length ds ≤ 10 ^ k = pow-le-pow_right (lit< tt) few in
+    let value = is.value in
+    omega arith

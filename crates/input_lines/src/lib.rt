@@ -1,4 +1,4 @@
-// The lines of an input, and the numbers in them.
+// The lines of an input, and the numbers in them, as every program here reads them.
 #![tactic(auto)]
 
 mod cutting;

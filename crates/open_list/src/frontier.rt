@@ -33,3 +33,32 @@ pub trait Frontier {
 
     ghost few: { (f : Self) → length (waiting f) ≤ room f };
 }
+
+// An open list that is lent.
+impl<F: Frontier> Frontier for &mut F {
+    ghost waiting = { λ f. F.waiting f.now };
+
+    ghost room = { λ f. F.room f.now };
+
+    ghost few = { λ f. F.few f.now };
+
+    fn put(&mut self, entry: Entry) -> Result<(), Refusal> {
+        (**self).put(entry)
+    }
+
+    fn take(&mut self) -> Option<Entry> {
+        (**self).take()
+    }
+
+    fn clear(&mut self) {
+        (**self).clear();
+    }
+
+    fn count(&self) -> usize {
+        (**self).count()
+    }
+
+    fn places(&self) -> usize {
+        (**self).places()
+    }
+}

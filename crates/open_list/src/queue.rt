@@ -39,7 +39,7 @@ impl Frontier for Queue {
         ensures same { deque_capacity self.new.entries ≡ deque_capacity self.old.entries }
         ensures joins { Joins self.old.entries.items entry result self.new.entries.items }
     {
-        if self.count() == self.places() {
+        if Self::count(self) == Self::places(self) {
             return Err(Refusal::Full);
         }
         self.entries.push_back_reserved(entry);

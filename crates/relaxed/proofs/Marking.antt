@@ -97,6 +97,16 @@ new_here : (acts : List Action) (s : State) (top i f : ℕ) (ns : List FactNode)
 new_here acts s top i f ns g l q d =
     sym (level_is (node ns f).level i ∙ ap (λ (y : Bool). y && not (nat_le (node ns f).level i)) (g.level f (suc i) q (omega arith)) ∙ ap (λ (y : Bool). has (layer acts s (suc i)) f && not y) (g.level f i q (omega arith))) ∙ of_level i (node ns f) d
 
+pub treat_none : (acts : List Action) (i f : ℕ) (ns : List FactNode) → f < 256 → due i (node ns f) ≡ true → length acts ≤ (node ns f).adder → Treats acts i (λ s m. visit acts s i f m) ns ns 0
+treat_none acts i f ns q d past = record {
+  graph = λ s top g. g;
+  shows = λ s top m g l w. absurd (no s top g l);
+  count = λ s top m g l w. absurd (no s top g l);
+}
+  where
+    no : (s : State) (top : ℕ) → Graph acts s top ns → i < top → ⊥
+    no s top g l = let r = g.by f i q l (new_here acts s top i f ns g l q d) in let a = r.0 in let b = r.1 in omega arith
+
 pub treat_some : (acts : List Action) (i f k : ℕ) (a : Action) (ns ns' : List FactNode) → f < 256 → due i (node ns f) ≡ true → k ≡ (node ns f).adder → k < length acts → a ≡ act acts k → Each (selected a i) ns ns' → Treats acts i (λ s m. visit acts s i f m) ns ns' 1
 treat_some acts i f k a ns ns' q d ek lk ea e = record {
   graph = λ s top g. graph_selected acts s top i a ns ns' e g;

@@ -84,3 +84,14 @@ fn refused_files(rt: HostRuntime) -> Result<(), Fail> {
     );
     Ok(())
 }
+
+// The numbers under which the lines of these tests are told.
+#[test]
+fn numbers_of_lines(rt: HostRuntime) -> Result<(), Fail> {
+    assert_eq!(rt; Cause::Length.number(), 1);
+    assert_eq!(rt; Refusal::FileSize.number(), 10);
+    assert_eq!(rt; Flaw::PreconditionFalse.number(), 2);
+    assert_eq!(rt; Flaw::StateDiffers.number(), 3);
+    assert_eq!(rt; Flaw::GoalsFalse.number(), 4);
+    Ok(())
+}

@@ -4,8 +4,8 @@ use Rattle.engine.specs.Generation.{posed}
 use Rattle.engine.specs.BestFirst.{Explored}
 use Rattle.engine.proofs.planner.Planner.run.Given as goal
 
-abbrev pub invariant-loop-entry : goal.invariant-loop-entry
-invariant-loop-entry g l =
+abbrev pub invariant-loop-expansions : goal.invariant-loop-expansions
+invariant-loop-expansions g l =
     record {
       so_far : Explored (posed g.E.Estimator.meaning g.E.Estimator.prefers (vec_items l.problem.task.now.actions) l.problem.goal.now.words (g.S.Store.room l.initial.self.searcher.store)) l.initial.expansions.budget (row (g.S.Store.rows l.initial.self.searcher.store) 0).state.words (g.S.Store.rows l.self.searcher.store) (g.F.Frontier.waiting l.self.frontier) l.expansions.count;
       store_room : g.S.Store.room l.self.searcher.store ≡ g.S.Store.room l.initial.self.searcher.store;
@@ -13,5 +13,5 @@ invariant-loop-entry g l =
       budget : l.expansions.budget ≡ l.initial.expansions.budget;
     }
 
-abbrev pub decreases-loop-entry : goal.decreases-loop-entry
-decreases-loop-entry g l = l.expansions.budget - l.expansions.count
+abbrev pub decreases-loop-expansions : goal.decreases-loop-expansions
+decreases-loop-expansions g l = l.expansions.budget - l.expansions.count

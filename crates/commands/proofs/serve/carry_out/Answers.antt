@@ -1,6 +1,6 @@
 use Rattle.std.proofs.Common.{refl}
 use Rattle.commands.proofs.Served.{served_plan, served_refused, unserved}
-use Rattle.commands.proofs.serve.Console.carry_out.Goals as goal
+use Rattle.commands.proofs.serve.carry_out.Goals as goal
 
 pub returns-in_default : goal.returns-in_default
 returns-in_default g c = record { serves = unserved _ _ _ c.in_default.ensures.value; store_room = refl; frontier_room = refl }
