@@ -1,19 +1,13 @@
 // The console at work: the yard from its file, commands from standard input, replies to standard output.
 #![tactic(auto)]
 
-ghost use Rattle.std.specs.Prelude.{◌≡◌, [], MatchOption};
-ghost use Rattle.input_lines.specs.Cuts.{before};
-ghost use Rattle.console_lines.specs.Commands.{command};
-ghost use Rattle.commands.specs.Serves.{Desk, Serves};
+mod answering;
 
-use closed_list::Store;
+use crate::answering::answer;
 use commands::Console;
 use console_lines::Reply;
 use engine::Planner;
 use hashed_list::HashedStore;
-use heuristic::Estimator;
-use input_lines::next_line;
-use open_list::Frontier;
 use ordered_open_list::WeightedFrontier;
 use relaxed::RelaxedGraph;
 use session::Session;
@@ -27,17 +21,6 @@ const MOST_BYTES: usize = 49_344;
 const PLACES: u16 = 512;
 
 const SESSION: u16 = 1;
-
-// Answers the first line of what was read; nothing where nothing was, for then the input has ended.
-fn answer<E: Estimator, F: Frontier, S: Store>(
-    console: &mut Console<'_, E, F, S>,
-    bytes: &[u8],
-) -> Option<Reply>
-    ensures { MatchOption result (bytes.now ≡ []) (λ reply. Serves (record { estimate = E.meaning; prefers = E.prefers; store = S.room console.old.planner.searcher.store; frontier = F.room console.old.planner.frontier }) console.old.session (command (before 10 bytes.now)) reply console.new.session) }
-{
-    let (line, _) = next_line(bytes)?;
-    Some(console.respond(line))
-}
 
 // Answers each line as it comes. One buffer serves all lines.
 fn converse(rt: &HostRuntime, task: &Task) -> anyhow::Result<()> {
