@@ -85,19 +85,21 @@ fn order(session: &mut Session<'_>, report: Report) -> Reply
 // Carries out the command that a line is.
 fn carry_out<E: Estimator, F: Frontier, S: Store>(
     session: &mut Session<'_>,
-    planner: &mut Planner<E, F, S>,
+    estimator: &mut E,
+    frontier: &mut F,
+    store: &mut S,
     line: &[u8],
 ) -> Reply
-    ensures serves { Serves (record { estimate = E.meaning; prefers = E.prefers; store = S.room planner.old.searcher.store; frontier = F.room planner.old.frontier }) session.old (command line.now) result session.new }
-    ensures store_room { S.room planner.new.searcher.store ≡ S.room planner.old.searcher.store }
-    ensures frontier_room { F.room planner.new.frontier ≡ F.room planner.old.frontier }
+    ensures serves { Serves (record { estimate = E.meaning; prefers = E.prefers; store = S.room store.old; frontier = F.room frontier.old }) session.old (command line.now) result session.new }
+    ensures store_room { S.room store.new ≡ S.room store.old }
+    ensures frontier_room { F.room frontier.new ≡ F.room frontier.old }
 {
     let Some(asked) = parse(line) else {
         return Reply::Bad;
     };
     match asked {
         Command::Plan { hill, fallback } => {
-            match session.plan(planner, Budgets { hill, fallback }) {
+            match session.plan_lent(estimator, frontier, store, Budgets { hill, fallback }) {
                 Ok((verdict, climbed, tried)) => tell(verdict, climbed, tried),
                 Err(refusal) => refused(refusal),
             }
@@ -107,18 +109,20 @@ fn carry_out<E: Estimator, F: Frontier, S: Store>(
     }
 }
 
-// Answers a line, for a session and a planner that are lent. What holds wherever a history of calls ends holds of the session after it.
+// Answers a line, for a session, an estimator and tables that are lent. What holds wherever a history of calls ends holds of the session after it.
 pub fn respond<E: Estimator, F: Frontier, S: Store>(
     session: &mut Session<'_>,
-    planner: &mut Planner<E, F, S>,
+    estimator: &mut E,
+    frontier: &mut F,
+    store: &mut S,
     line: &[u8],
 ) -> Reply
-    ensures serves { Serves (record { estimate = E.meaning; prefers = E.prefers; store = S.room planner.old.searcher.store; frontier = F.room planner.old.frontier }) session.old (command line.now) result session.new }
+    ensures serves { Serves (record { estimate = E.meaning; prefers = E.prefers; store = S.room store.old; frontier = F.room frontier.old }) session.old (command line.now) result session.new }
     ensures stands { Stands session.new }
-    ensures store_room { S.room planner.new.searcher.store ≡ S.room planner.old.searcher.store }
-    ensures frontier_room { F.room planner.new.frontier ≡ F.room planner.old.frontier }
+    ensures store_room { S.room store.new ≡ S.room store.old }
+    ensures frontier_room { F.room frontier.new ≡ F.room frontier.old }
 {
-    let reply = carry_out(session, planner, line);
+    let reply = carry_out(session, estimator, frontier, store, line);
     session.standing();
     reply
 }
@@ -131,6 +135,12 @@ impl<'t, E: Estimator, F: Frontier, S: Store> Console<'t, E, F, S> {
         ensures store_room { S.room self.new.planner.searcher.store ≡ S.room self.old.planner.searcher.store }
         ensures frontier_room { F.room self.new.planner.frontier ≡ F.room self.old.planner.frontier }
     {
-        respond(&mut self.session, &mut self.planner, line)
+        respond(
+            &mut self.session,
+            &mut self.planner.searcher.estimator,
+            &mut self.planner.frontier,
+            &mut self.planner.searcher.store,
+            line,
+        )
     }
 }

@@ -11,14 +11,14 @@ ghost use Rattle.engine.specs.Outcomes.{verdict_of};
 
 use crate::expansions::Expansions;
 use crate::model::{Halt, Problem, Start, StoreFull};
-use crate::planner::Planner;
+use crate::planner::LentPlanner;
 use crate::taken::Taken;
 use closed_list::Store;
 use heuristic::{Estimate, Estimator};
 use open_list::{Entry, Frontier};
 use strips::Action;
 
-impl<E: Estimator, F: Frontier, S: Store> Planner<E, F, S> {
+impl<E: Estimator, F: Frontier, S: Store> LentPlanner<'_, '_, '_, E, F, S> {
     // Treats action k in the state of the row that is taken up: answers the row that has all goals, where it enters that.
     fn consider(
         &mut self,
@@ -28,11 +28,12 @@ impl<E: Estimator, F: Frontier, S: Store> Planner<E, F, S> {
         action: &Action,
     ) -> Result<Option<u16>, StoreFull>
         requires is { IsAction problem.task.now.actions.items k action.now }
-        requires fits { length (F.waiting self.old.frontier) < length (S.rows self.old.searcher.store) }
-        requires holds { S.room self.old.searcher.store ≤ F.room self.old.frontier }
-        ensures change { Considers (posed E.meaning E.prefers problem.entry.task.now.actions.items problem.entry.goal.now.words (S.room self.old.searcher.store)) parent.number parent.row k (S.rows self.old.searcher.store) (F.waiting self.old.frontier) result (S.rows self.new.searcher.store) (F.waiting self.new.frontier) }
-        ensures store_room { S.room self.new.searcher.store ≡ S.room self.old.searcher.store }
-        ensures frontier_room { F.room self.new.frontier ≡ F.room self.old.frontier }
+        requires fits { length (F.waiting self.old.frontier.now) < length (S.rows self.old.searcher.store.now) }
+        requires holds { S.room self.old.searcher.store.now ≤ F.room self.old.frontier.now }
+        ensures change { Considers (posed E.meaning E.prefers problem.entry.task.now.actions.items problem.entry.goal.now.words (S.room self.old.searcher.store.now)) parent.number parent.row k (S.rows self.old.searcher.store.now) (F.waiting self.old.frontier.now) result (S.rows self.new.searcher.store.now) (F.waiting self.new.frontier.now) }
+        ensures store_room { S.room self.new.searcher.store.now ≡ S.room self.old.searcher.store.now }
+        ensures frontier_room { F.room self.new.frontier.now ≡ F.room self.old.frontier.now }
+        ensures lent { (self.new.searcher.estimator.ghost_name ≡ self.old.searcher.estimator.ghost_name) × (self.new.searcher.store.ghost_name ≡ self.old.searcher.store.ghost_name) × (self.new.frontier.ghost_name ≡ self.old.frontier.ghost_name) }
     {
         let Some(entered) = self.searcher.generate(problem, parent, k, action)? else {
             return Ok(None);
@@ -56,11 +57,12 @@ impl<E: Estimator, F: Frontier, S: Store> Planner<E, F, S> {
 
     // Expands the row that is taken up with all applicable actions in rising number.
     fn expand(&mut self, problem: Problem<'_>, parent: Taken) -> Result<Option<u16>, StoreFull>
-        requires fits { length (F.waiting self.old.frontier) < length (S.rows self.old.searcher.store) }
-        requires holds { S.room self.old.searcher.store ≤ F.room self.old.frontier }
-        ensures change { Expands (posed E.meaning E.prefers problem.entry.task.now.actions.items problem.entry.goal.now.words (S.room self.old.searcher.store)) parent.number parent.row (S.rows self.old.searcher.store) (F.waiting self.old.frontier) result (S.rows self.new.searcher.store) (F.waiting self.new.frontier) }
-        ensures store_room { S.room self.new.searcher.store ≡ S.room self.old.searcher.store }
-        ensures frontier_room { F.room self.new.frontier ≡ F.room self.old.frontier }
+        requires fits { length (F.waiting self.old.frontier.now) < length (S.rows self.old.searcher.store.now) }
+        requires holds { S.room self.old.searcher.store.now ≤ F.room self.old.frontier.now }
+        ensures change { Expands (posed E.meaning E.prefers problem.entry.task.now.actions.items problem.entry.goal.now.words (S.room self.old.searcher.store.now)) parent.number parent.row (S.rows self.old.searcher.store.now) (F.waiting self.old.frontier.now) result (S.rows self.new.searcher.store.now) (F.waiting self.new.frontier.now) }
+        ensures store_room { S.room self.new.searcher.store.now ≡ S.room self.old.searcher.store.now }
+        ensures frontier_room { F.room self.new.frontier.now ≡ F.room self.old.frontier.now }
+        ensures lent { (self.new.searcher.estimator.ghost_name ≡ self.old.searcher.estimator.ghost_name) × (self.new.searcher.store.ghost_name ≡ self.old.searcher.store.ghost_name) × (self.new.frontier.ghost_name ≡ self.old.frontier.ghost_name) }
     {
         for (k, action) in problem.task.actions().iter().enumerate() {
             if let Some(reached) = self.consider(problem, parent, k as u16, action)? {
@@ -77,14 +79,15 @@ impl<E: Estimator, F: Frontier, S: Store> Planner<E, F, S> {
         expansions: &mut Expansions,
         out: &mut [u16],
     ) -> Result<Option<u16>, Halt>
-        requires begun { Explored (posed E.meaning E.prefers problem.task.now.actions.items problem.goal.now.words (S.room self.old.searcher.store)) expansions.old.budget (row_at (S.rows self.old.searcher.store) 0).state.words (S.rows self.old.searcher.store) (F.waiting self.old.frontier) expansions.old.count }
-        requires places { HasPlaces (S.room self.old.searcher.store) }
-        requires holds { S.room self.old.searcher.store ≤ F.room self.old.frontier }
+        requires begun { Explored (posed E.meaning E.prefers problem.task.now.actions.items problem.goal.now.words (S.room self.old.searcher.store.now)) expansions.old.budget (row_at (S.rows self.old.searcher.store.now) 0).state.words (S.rows self.old.searcher.store.now) (F.waiting self.old.frontier.now) expansions.old.count }
+        requires places { HasPlaces (S.room self.old.searcher.store.now) }
+        requires holds { S.room self.old.searcher.store.now ≤ F.room self.old.frontier.now }
         requires fits { longest ≤ length out.old }
-        ensures answer { Searched (posed E.meaning E.prefers problem.entry.task.now.actions.items problem.entry.goal.now.words (S.room self.old.searcher.store)) expansions.old.budget (row_at (S.rows self.old.searcher.store) 0).state.words (said (verdict_of result) out.new) expansions.new.count }
+        ensures answer { Searched (posed E.meaning E.prefers problem.entry.task.now.actions.items problem.entry.goal.now.words (S.room self.old.searcher.store.now)) expansions.old.budget (row_at (S.rows self.old.searcher.store.now) 0).state.words (said (verdict_of result) out.new) expansions.new.count }
         ensures sized { Sized (verdict_of result) }
-        ensures store_room { S.room self.new.searcher.store ≡ S.room self.old.searcher.store }
-        ensures frontier_room { F.room self.new.frontier ≡ F.room self.old.frontier }
+        ensures store_room { S.room self.new.searcher.store.now ≡ S.room self.old.searcher.store.now }
+        ensures frontier_room { F.room self.new.frontier.now ≡ F.room self.old.frontier.now }
+        ensures lent { (self.new.searcher.estimator.ghost_name ≡ self.old.searcher.estimator.ghost_name) × (self.new.searcher.store.ghost_name ≡ self.old.searcher.store.ghost_name) × (self.new.frontier.ghost_name ≡ self.old.frontier.ghost_name) }
     {
         while self.frontier.count() != 0 {
             expansions.count_one()?;
@@ -113,16 +116,17 @@ impl<E: Estimator, F: Frontier, S: Store> Planner<E, F, S> {
         expansions: &mut Expansions,
         out: &mut [u16],
     ) -> Result<Option<u16>, Halt>
-        requires places { HasPlaces (S.room self.old.searcher.store) }
-        requires holds { S.room self.old.searcher.store ≤ F.room self.old.frontier }
+        requires places { HasPlaces (S.room self.old.searcher.store.now) }
+        requires holds { S.room self.old.searcher.store.now ≤ F.room self.old.frontier.now }
         requires fits { longest ≤ length out.old }
         requires told { E.meaning problem.task.now.actions.items problem.goal.now.words start.state.words ≡ Steps start.steps }
         requires above { 0 < start.steps }
         requires begun { expansions.old.count ≡ 0 }
-        ensures answer { Searched (posed E.meaning E.prefers problem.entry.task.now.actions.items problem.entry.goal.now.words (S.room self.old.searcher.store)) expansions.old.budget start.state.words (said (verdict_of result) out.new) expansions.new.count }
+        ensures answer { Searched (posed E.meaning E.prefers problem.entry.task.now.actions.items problem.entry.goal.now.words (S.room self.old.searcher.store.now)) expansions.old.budget start.state.words (said (verdict_of result) out.new) expansions.new.count }
         ensures sized { Sized (verdict_of result) }
-        ensures store_room { S.room self.new.searcher.store ≡ S.room self.old.searcher.store }
-        ensures frontier_room { F.room self.new.frontier ≡ F.room self.old.frontier }
+        ensures store_room { S.room self.new.searcher.store.now ≡ S.room self.old.searcher.store.now }
+        ensures frontier_room { F.room self.new.frontier.now ≡ F.room self.old.frontier.now }
+        ensures lent { (self.new.searcher.estimator.ghost_name ≡ self.old.searcher.estimator.ghost_name) × (self.new.searcher.store.ghost_name ≡ self.old.searcher.store.ghost_name) × (self.new.frontier.ghost_name ≡ self.old.frontier.ghost_name) }
     {
         self.searcher.fresh(start);
         self.frontier.clear();

@@ -8,7 +8,7 @@ ghost use Rattle.engine.specs.HillClimbing.{Climbs, Ended, Leg, Tops, Tried, is_
 
 use crate::expansions::Expansions;
 use crate::model::{Better, Halt, Problem, Start, StoreFull, Tries};
-use crate::searcher::Searcher;
+use crate::searcher::LentSearcher;
 use crate::taken::Taken;
 use closed_list::Store;
 use facts::{ActionSet, FactSet};
@@ -25,11 +25,12 @@ fn is_wanted(liked: &Option<ActionSet>, k: u16) -> bool
     liked.as_ref().is_none_or(|set| set.contains(k))
 }
 
-impl<E: Estimator, S: Store> Searcher<E, S> {
+impl<E: Estimator, S: Store> LentSearcher<'_, '_, E, S> {
     // The actions that are tried in the state; none where all are.
     fn choose(&mut self, problem: Problem<'_>, tries: Tries, state: &FactSet) -> Option<ActionSet>
         ensures chosen { (k : ℕ) → wanted result k ≡ is_tried (E.prefers problem.entry.task.now.actions.items problem.entry.goal.now.words) tries state.now.words k }
-        ensures same { self.new.store ≡ self.old.store }
+        ensures same { self.new.store.now ≡ self.old.store.now }
+        ensures lent { (self.new.estimator.ghost_name ≡ self.old.estimator.ghost_name) × (self.new.store.ghost_name ≡ self.old.store.ghost_name) }
     {
         match tries {
             Tries::All => None,
@@ -52,8 +53,9 @@ impl<E: Estimator, S: Store> Searcher<E, S> {
         action: &Action,
     ) -> Result<Option<Better>, StoreFull>
         requires is { IsAction problem.task.now.actions.items k action.now }
-        ensures change { (tries : _) → is_tried (E.prefers problem.entry.task.now.actions.items problem.entry.goal.now.words) tries parent.row.state.words k ≡ true → Tried (posed E.meaning E.prefers problem.entry.task.now.actions.items problem.entry.goal.now.words (S.room self.old.store)) tries bound parent.number parent.row k (S.rows self.old.store) result (S.rows self.new.store) }
-        ensures same { S.room self.new.store ≡ S.room self.old.store }
+        ensures change { (tries : _) → is_tried (E.prefers problem.entry.task.now.actions.items problem.entry.goal.now.words) tries parent.row.state.words k ≡ true → Tried (posed E.meaning E.prefers problem.entry.task.now.actions.items problem.entry.goal.now.words (S.room self.old.store.now)) tries bound parent.number parent.row k (S.rows self.old.store.now) result (S.rows self.new.store.now) }
+        ensures same { S.room self.new.store.now ≡ S.room self.old.store.now }
+        ensures lent { (self.new.estimator.ghost_name ≡ self.old.estimator.ghost_name) × (self.new.store.ghost_name ≡ self.old.store.ghost_name) }
     {
         let Some(entered) = self.generate(problem, parent, k, action)? else {
             return Ok(None);
@@ -75,8 +77,9 @@ impl<E: Estimator, S: Store> Searcher<E, S> {
         bound: u16,
         parent: Taken,
     ) -> Result<Option<Better>, StoreFull>
-        ensures change { Tops (posed E.meaning E.prefers problem.entry.task.now.actions.items problem.entry.goal.now.words (S.room self.old.store)) tries bound parent.number parent.row (S.rows self.old.store) result (S.rows self.new.store) }
-        ensures same { S.room self.new.store ≡ S.room self.old.store }
+        ensures change { Tops (posed E.meaning E.prefers problem.entry.task.now.actions.items problem.entry.goal.now.words (S.room self.old.store.now)) tries bound parent.number parent.row (S.rows self.old.store.now) result (S.rows self.new.store.now) }
+        ensures same { S.room self.new.store.now ≡ S.room self.old.store.now }
+        ensures lent { (self.new.estimator.ghost_name ≡ self.old.estimator.ghost_name) × (self.new.store.ghost_name ≡ self.old.store.ghost_name) }
     {
         let liked = self.choose(problem, tries, &parent.row.state);
         for (k, action) in problem.task.actions().iter().enumerate() {
@@ -98,10 +101,11 @@ impl<E: Estimator, S: Store> Searcher<E, S> {
         bound: u16,
         expansions: &mut Expansions,
     ) -> Result<Option<Better>, Halt>
-        requires places { HasPlaces (S.room self.old.store) }
-        requires begun { S.rows self.old.store ≡ root (posed E.meaning E.prefers problem.task.now.actions.items problem.goal.now.words (S.room self.old.store)) (row_at (S.rows self.old.store) 0).state.words ∷ [] }
-        ensures ended { Ended (posed E.meaning E.prefers problem.entry.task.now.actions.items problem.entry.goal.now.words (S.room self.old.store)) tries bound expansions.old.budget expansions.old.count (row_at (S.rows self.old.store) 0).state.words result (S.rows self.new.store) expansions.new.count }
-        ensures same { S.room self.new.store ≡ S.room self.old.store }
+        requires places { HasPlaces (S.room self.old.store.now) }
+        requires begun { S.rows self.old.store.now ≡ root (posed E.meaning E.prefers problem.task.now.actions.items problem.goal.now.words (S.room self.old.store.now)) (row_at (S.rows self.old.store.now) 0).state.words ∷ [] }
+        ensures ended { Ended (posed E.meaning E.prefers problem.entry.task.now.actions.items problem.entry.goal.now.words (S.room self.old.store.now)) tries bound expansions.old.budget expansions.old.count (row_at (S.rows self.old.store.now) 0).state.words result (S.rows self.new.store.now) expansions.new.count }
+        ensures same { S.room self.new.store.now ≡ S.room self.old.store.now }
+        ensures lent { (self.new.estimator.ghost_name ≡ self.old.estimator.ghost_name) × (self.new.store.ghost_name ≡ self.old.store.ghost_name) }
         ensures budget { expansions.new.budget ≡ expansions.old.budget }
     {
         // by number, since rows are entered meanwhile
@@ -128,10 +132,11 @@ impl<E: Estimator, S: Store> Searcher<E, S> {
         start: Start,
         expansions: &mut Expansions,
     ) -> Result<Option<Better>, Halt>
-        requires places { HasPlaces (S.room self.old.store) }
+        requires places { HasPlaces (S.room self.old.store.now) }
         requires told { E.meaning problem.task.now.actions.items problem.goal.now.words start.state.words ≡ Steps start.steps }
-        ensures ended { Ended (posed E.meaning E.prefers problem.entry.task.now.actions.items problem.entry.goal.now.words (S.room self.old.store)) tries start.steps expansions.old.budget expansions.old.count start.state.words result (S.rows self.new.store) expansions.new.count }
-        ensures same { S.room self.new.store ≡ S.room self.old.store }
+        ensures ended { Ended (posed E.meaning E.prefers problem.entry.task.now.actions.items problem.entry.goal.now.words (S.room self.old.store.now)) tries start.steps expansions.old.budget expansions.old.count start.state.words result (S.rows self.new.store.now) expansions.new.count }
+        ensures same { S.room self.new.store.now ≡ S.room self.old.store.now }
+        ensures lent { (self.new.estimator.ghost_name ≡ self.old.estimator.ghost_name) × (self.new.store.ghost_name ≡ self.old.store.ghost_name) }
         ensures budget { expansions.new.budget ≡ expansions.old.budget }
     {
         self.fresh(start);
@@ -145,10 +150,11 @@ impl<E: Estimator, S: Store> Searcher<E, S> {
         start: Start,
         expansions: &mut Expansions,
     ) -> Result<Option<Better>, Halt>
-        requires places { HasPlaces (S.room self.old.store) }
+        requires places { HasPlaces (S.room self.old.store.now) }
         requires told { E.meaning problem.task.now.actions.items problem.goal.now.words start.state.words ≡ Steps start.steps }
-        ensures leg { Leg (posed E.meaning E.prefers problem.entry.task.now.actions.items problem.entry.goal.now.words (S.room self.old.store)) start.steps expansions.old.budget expansions.old.count start.state.words result (S.rows self.new.store) expansions.new.count }
-        ensures same { S.room self.new.store ≡ S.room self.old.store }
+        ensures leg { Leg (posed E.meaning E.prefers problem.entry.task.now.actions.items problem.entry.goal.now.words (S.room self.old.store.now)) start.steps expansions.old.budget expansions.old.count start.state.words result (S.rows self.new.store.now) expansions.new.count }
+        ensures same { S.room self.new.store.now ≡ S.room self.old.store.now }
+        ensures lent { (self.new.estimator.ghost_name ≡ self.old.estimator.ghost_name) × (self.new.store.ghost_name ≡ self.old.store.ghost_name) }
         ensures budget { expansions.new.budget ≡ expansions.old.budget }
     {
         if let Some(better) = self.stretch(problem, Tries::Preferred, start, expansions)? {
@@ -165,14 +171,15 @@ impl<E: Estimator, S: Store> Searcher<E, S> {
         expansions: &mut Expansions,
         out: &mut [u16],
     ) -> Option<u16>
-        requires places { HasPlaces (S.room self.old.store) }
+        requires places { HasPlaces (S.room self.old.store.now) }
         requires fits { length out.old ≡ longest }
         requires told { E.meaning problem.task.now.actions.items problem.goal.now.words start.state.words ≡ Steps start.steps }
         requires above { 0 < start.steps }
         requires begun { expansions.old.count ≡ 0 }
-        ensures climbs { Climbs (posed E.meaning E.prefers problem.entry.task.now.actions.items problem.entry.goal.now.words (S.room self.old.store)) expansions.old.budget start.state.words (listed result out.new) expansions.new.count }
+        ensures climbs { Climbs (posed E.meaning E.prefers problem.entry.task.now.actions.items problem.entry.goal.now.words (S.room self.old.store.now)) expansions.old.budget start.state.words (listed result out.new) expansions.new.count }
         ensures sized { IfSome result (λ n. n ≤ longest) }
-        ensures same { S.room self.new.store ≡ S.room self.old.store }
+        ensures same { S.room self.new.store.now ≡ S.room self.old.store.now }
+        ensures lent { (self.new.estimator.ghost_name ≡ self.old.estimator.ghost_name) × (self.new.store.ghost_name ≡ self.old.store.ghost_name) }
     {
         let mut from = start;
         let mut len = 0u16;

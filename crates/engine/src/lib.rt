@@ -15,5 +15,5 @@ pub use claims::answers_are_lawful;
 pub use hill_climbing::LONGEST;
 pub use limits::{Budgets, Limits, check_limits};
 pub use model::{Refusal, Verdict};
-pub use planner::Planner;
+pub use planner::{Planner, plan};
 pub use searcher::Searcher;

@@ -20,6 +20,13 @@ pub struct Searcher<E, S> {
     pub store: S,
 }
 
+// The two while they are lent to a plan call. A contract says that the loans stay these, so that their owner knows afterwards what became of them.
+#[derive(Drop)]
+pub(crate) struct LentSearcher<'e, 's, E, S> {
+    pub estimator: &'e mut E,
+    pub store: &'s mut S,
+}
+
 // The result of the action in the state, where it is applicable.
 fn successor(action: &Action, state: &FactSet) -> Option<FactSet>
     ensures result { Successor action.now state.now.words result }
@@ -27,7 +34,7 @@ fn successor(action: &Action, state: &FactSet) -> Option<FactSet>
     action.is_applicable(state).then(|| action.apply(state))
 }
 
-impl<E: Estimator, S: Store> Searcher<E, S> {
+impl<E: Estimator, S: Store> LentSearcher<'_, '_, E, S> {
     // Enters the result of action k in the state of the row that is taken up.
     pub(crate) fn generate(
         &mut self,
@@ -37,8 +44,9 @@ impl<E: Estimator, S: Store> Searcher<E, S> {
         action: &Action,
     ) -> Result<Option<Entered>, StoreFull>
         requires is { IsAction problem.task.now.actions.items k action.now }
-        ensures change { Generates (posed E.meaning E.prefers problem.entry.task.now.actions.items problem.entry.goal.now.words (S.room self.old.store)) parent.number parent.row k (S.rows self.old.store) result (S.rows self.new.store) }
-        ensures same { S.room self.new.store ≡ S.room self.old.store }
+        ensures change { Generates (posed E.meaning E.prefers problem.entry.task.now.actions.items problem.entry.goal.now.words (S.room self.old.store.now)) parent.number parent.row k (S.rows self.old.store.now) result (S.rows self.new.store.now) }
+        ensures same { S.room self.new.store.now ≡ S.room self.old.store.now }
+        ensures lent { (self.new.estimator.ghost_name ≡ self.old.estimator.ghost_name) × (self.new.store.ghost_name ≡ self.old.store.ghost_name) }
     {
         let Some(state) = successor(action, &parent.row.state) else {
             return Ok(None);
@@ -69,9 +77,10 @@ impl<E: Estimator, S: Store> Searcher<E, S> {
 
     // Makes the state the only row.
     pub(crate) fn fresh(&mut self, start: Start)
-        requires some { 0 < S.room self.old.store }
-        ensures rows { S.rows self.new.store ≡ first_row start.state (Steps start.steps) ∷ [] }
-        ensures same { S.room self.new.store ≡ S.room self.old.store }
+        requires some { 0 < S.room self.old.store.now }
+        ensures rows { S.rows self.new.store.now ≡ first_row start.state (Steps start.steps) ∷ [] }
+        ensures same { S.room self.new.store.now ≡ S.room self.old.store.now }
+        ensures lent { (self.new.estimator.ghost_name ≡ self.old.estimator.ghost_name) × (self.new.store.ghost_name ≡ self.old.store.ghost_name) }
     {
         self.store.clear();
         let entered = self.store.enter(Row {
@@ -88,11 +97,11 @@ impl<E: Estimator, S: Store> Searcher<E, S> {
 
     // Writes the actions on the way to row j, and answers how many there are.
     pub(crate) fn write_path(&self, j: u16, out: &mut [u16]) -> u16
-        requires there { j < length (S.rows self.now.store) }
-        requires parents { (i : ℕ) → i < length (S.rows self.now.store) → (row_at (S.rows self.now.store) i).parent < length (S.rows self.now.store) }
-        requires fits { (row_at (S.rows self.now.store) j).distance ≤ length out.old }
-        ensures path { take result out.new ≡ path_to (S.rows self.now.store) j }
-        ensures far { result ≡ (row_at (S.rows self.now.store) j).distance }
+        requires there { j < length (S.rows self.now.store.now) }
+        requires parents { (i : ℕ) → i < length (S.rows self.now.store.now) → (row_at (S.rows self.now.store.now) i).parent < length (S.rows self.now.store.now) }
+        requires fits { (row_at (S.rows self.now.store.now) j).distance ≤ length out.old }
+        ensures path { take result out.new ≡ path_to (S.rows self.now.store.now) j }
+        ensures far { result ≡ (row_at (S.rows self.now.store.now) j).distance }
     {
         let Some(mut at) = self.store.row(j) else {
             unreachable!();

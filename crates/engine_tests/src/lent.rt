@@ -1,7 +1,7 @@
 // Planners over an estimator and tables that are lent: these stay their owner's.
 use crate::yards::{MARK, lift, task_of};
 use closed_list::{ScannedStore, Store};
-use engine::{Budgets, LONGEST, Planner, Verdict};
+use engine::{Budgets, LONGEST, Planner, Verdict, plan};
 use open_list::Frontier;
 use ordered_open_list::WeightedFrontier;
 use relaxed::RelaxedGraph;
@@ -29,6 +29,20 @@ fn lent_tables(rt: HostRuntime) -> Result<(), Fail> {
         assert_eq!(rt; answer, (verdict, climbed, 0));
         assert!(rt; buffer[..3] == [2, 0, 1]);
     }
+    let answer = plan(
+        &task,
+        &task.initial(),
+        &task.goal(),
+        &mut graph,
+        &mut frontier,
+        &mut store,
+        Budgets {
+            hill: 0,
+            fallback: 0,
+        },
+        &mut buffer,
+    )?;
+    assert_eq!(rt; answer, (Verdict::Spent, 0, 0));
     // Spent before an expansion: the told state is the one row, and waits.
     assert_eq!(rt; store.count(), 1);
     assert_eq!(rt; frontier.count(), 1);

@@ -9,7 +9,7 @@ ghost use Rattle.session.specs.Account.{first as first_of};
 ghost use Rattle.session.specs.Verdicts.{length_for};
 
 use closed_list::Store;
-use engine::{Budgets, LONGEST, Planner, Verdict};
+use engine::{Budgets, LONGEST, Verdict};
 use facts::FactSet;
 use heuristic::Estimator;
 use open_list::Frontier;
@@ -72,22 +72,27 @@ impl HeldPlan {
     // Plans, and holds the list of the answer.
     pub(crate) fn fill<E: Estimator, F: Frontier, S: Store>(
         &mut self,
-        planner: &mut Planner<E, F, S>,
+        estimator: &mut E,
+        frontier: &mut F,
+        store: &mut S,
         task: &Task,
         state: &FactSet,
         goals: &FactSet,
         budgets: Budgets,
     ) -> Result<(Verdict, u32, u32), engine::Refusal>
-        ensures first { fault_in result ≡ refusal_of task.now.facts.words state.now.words goals.now.words (S.room planner.old.searcher.store) (F.room planner.old.frontier) budgets.hill budgets.fallback }
-        ensures may { IfOk result (λ a. MayAnswer (posed E.meaning E.prefers task.now.actions.items goals.now.words (S.room planner.old.searcher.store)) budgets.hill budgets.fallback state.now.words (said a.0 self.new) a.1 a.2) }
+        ensures first { fault_in result ≡ refusal_of task.now.facts.words state.now.words goals.now.words (S.room store.old) (F.room frontier.old) budgets.hill budgets.fallback }
+        ensures may { IfOk result (λ a. MayAnswer (posed E.meaning E.prefers task.now.actions.items goals.now.words (S.room store.old)) budgets.hill budgets.fallback state.now.words (said a.0 self.new) a.1 a.2) }
         ensures held { IfOk result (λ a. length self.new ≡ length_for a.0) }
-        ensures store_room { S.room planner.new.searcher.store ≡ S.room planner.old.searcher.store }
-        ensures frontier_room { F.room planner.new.frontier ≡ F.room planner.old.frontier }
+        ensures store_room { S.room store.new ≡ S.room store.old }
+        ensures frontier_room { F.room frontier.new ≡ F.room frontier.old }
     {
-        let (verdict, climbed, tried) = planner.plan(
+        let (verdict, climbed, tried) = engine::plan(
             task,
             state,
             goals,
+            estimator,
+            frontier,
+            store,
             budgets,
             &mut self.actions,
         )?;

@@ -11,11 +11,24 @@ use crate::held::HeldPlan;
 use crate::model::{Call, Order, Phase, Refusal};
 use crate::session::{Returned, Session, Slip};
 use closed_list::Store;
-use engine::{Budgets, Planner, Verdict, check_limits};
+use engine::{Budgets, Limits, Planner, Verdict, check_limits};
 use facts::FactSet;
 use heuristic::Estimator;
 use open_list::Frontier;
 use strips::Task;
+
+// The places of the tables, with the budgets that are asked for.
+fn limits<F: Frontier, S: Store>(frontier: &F, store: &S, budgets: Budgets) -> Limits
+    ensures store { result.store ≡ S.room store.now }
+    ensures frontier { result.frontier ≡ F.room frontier.now }
+    ensures budgets { result.budgets ≡ budgets }
+{
+    Limits {
+        store: store.places(),
+        frontier: frontier.places(),
+        budgets,
+    }
+}
 
 impl<'t> Session<'t> {
     // Opens a session on a task: its initial state and its goal are told, nothing is held or out.
@@ -91,6 +104,37 @@ impl<'t> Session<'t> {
         Ok(())
     }
 
+    // As `plan`, with an estimator and tables that are lent.
+    pub fn plan_lent<E: Estimator, F: Frontier, S: Store>(
+        &mut self,
+        estimator: &mut E,
+        frontier: &mut F,
+        store: &mut S,
+        budgets: Budgets,
+    ) -> Result<(Verdict, u32, u32), Refusal>
+        ensures call { Called self.old (planned (record { estimate = E.meaning; prefers = E.prefers; limits = record { store = S.room store.old; frontier = F.room frontier.old; budgets = budgets } }) (outcome self.new result)) self.new }
+        ensures counts { IfOk result (λ a. Counts a.0 (account self.new)) }
+        ensures store_room { S.room store.new ≡ S.room store.old }
+        ensures frontier_room { F.room frontier.new ≡ F.room frontier.old }
+        ensures untouched { OnErr result ((estimator.new ≡ estimator.old) × (frontier.new ≡ frontier.old) × (store.new ≡ store.old)) }
+    {
+        self.admit(&Call::Plan(limits::<F, S>(frontier, store, budgets)))?;
+        let Ok(answer) = self.plan.fill(
+            estimator,
+            frontier,
+            store,
+            self.task,
+            &self.state,
+            &self.goals,
+            budgets,
+        )
+        else {
+            unreachable!()
+        };
+        self.phase = Phase::from(answer.0);
+        Ok(answer)
+    }
+
     // Plans from the told state to the told goals, and holds what is answered.
     pub fn plan<E: Estimator, F: Frontier, S: Store>(
         &mut self,
@@ -103,15 +147,12 @@ impl<'t> Session<'t> {
         ensures frontier_room { F.room planner.new.frontier ≡ F.room planner.old.frontier }
         ensures untouched { OnErr result (planner.new ≡ planner.old) }
     {
-        self.admit(&Call::Plan(planner.limits(budgets)))?;
-        let Ok(answer) = self
-            .plan
-            .fill(planner, self.task, &self.state, &self.goals, budgets)
-        else {
-            unreachable!()
-        };
-        self.phase = Phase::from(answer.0);
-        Ok(answer)
+        self.plan_lent(
+            &mut planner.searcher.estimator,
+            &mut planner.frontier,
+            &mut planner.searcher.store,
+            budgets,
+        )
     }
 
     // Orders the first remaining action.
